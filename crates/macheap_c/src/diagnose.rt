@@ -1,7 +1,9 @@
 //! What helps when a guest has damaged its zone.
 
-ghost use Rattle.std.specs.Prelude.{◌≡◌};
+ghost use Rattle.std.specs.Prelude.{◌≡◌, Some};
+ghost use Rattle.mac_base.specs.Outcomes.{done_outcome};
 ghost use Rattle.held_zone.specs.Asleep.{IsAsleep, region_of};
+ghost use Rattle.held_zone.specs.Told.{code_told};
 ghost use Rattle.macheap_c.specs.Diagnose.{ChecksIn, HolderTold, IsChecked, IsRepaired, RepairsIn, part_number};
 
 use crate::guest::DAMAGED;
@@ -9,7 +11,7 @@ use crate::walk::{MhBlock, shown_block};
 use held_zone::asleep::MhAsleep;
 use held_zone::memory::MhMemory;
 use held_zone::session::Session;
-use held_zone::told::NO_ZONE;
+use held_zone::told::{self, NO_ZONE};
 use held_zone::zone::MhZone;
 use linked_zone::Part;
 use mac_base::error::{NO_ERR, OsErr};
@@ -25,24 +27,22 @@ pub extern "C" fn mh_repair(alloc: Global, asleep: &mut MhAsleep, memory: &mut M
     let Some(session) = asleep.take(alloc) else {
         return NO_ZONE;
     };
-    let code = repair(&session, memory);
+    let repaired = repair(&session, memory);
     asleep.put(session);
-    code
+    told::done(repaired)
 }
 
 /// Writes the structure of a zone into bytes.
-fn repair(session: &Session, memory: &mut MhMemory) -> i16
-    ensures { RepairsIn session.now (region_of memory.old.host) result (region_of memory.new.host) }
+fn repair(session: &Session, memory: &mut MhMemory) -> Result<(), OsErr>
+    ensures { RepairsIn session.now (region_of memory.old.host) (code_told (Some (done_outcome result))) (region_of memory.new.host) }
 {
-    let Some(region) = memory.take() else {
-        return OsErr::ParamErr.code();
-    };
+    let region = memory.take().ok_or(OsErr::ParamErr)?;
     if region.len() != session.limit() {
         memory.put(region);
-        return OsErr::ParamErr.code();
+        return Err(OsErr::ParamErr);
     }
     memory.put(session.settle(region));
-    NO_ERR
+    Ok(())
 }
 
 /// The first byte that isn't as the structure of a zone calls for: its offset from the zone's start, and the part of

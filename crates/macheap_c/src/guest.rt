@@ -3,6 +3,8 @@
 ghost use Rattle.std.specs.Prelude.{◌≡◌, [], None, Some, IfErr, IfOk, IfSome, IsTrue};
 ghost use Rattle.linked_zone.specs.Structure.{HasStructure};
 ghost use Rattle.linked_zone.specs.Written.{DifferIn};
+ghost use Rattle.mac_base.specs.Outcomes.{done_outcome};
+ghost use Rattle.held_zone.specs.Told.{code_told};
 ghost use Rattle.held_zone.specs.Asleep.{IsAsleep, SleepsOn, all_lendable, awake_in, region_of};
 ghost use Rattle.macheap_c.specs.Guest.{IsMadeAt, IsPutToSleep, IsTold, IsWoken, code_asleep};
 ghost use Rattle.macheap_c.specs.Life.{Ends, large_sizes_of};
@@ -11,7 +13,7 @@ use crate::life::large_spec_of;
 use held_zone::asleep::MhAsleep;
 use held_zone::memory::MhMemory;
 use held_zone::session::Session;
-use held_zone::told::NO_ZONE;
+use held_zone::told::{self, NO_ZONE};
 use held_zone::waking::{NotAwake, WhyAsleep};
 use held_zone::zone::MhZone;
 use linked_zone::Written;
@@ -37,12 +39,8 @@ pub extern "C" fn mh_make_zone_at(
 ) -> i16
     ensures { IsMadeAt asleep.old.zone.held.session (large_sizes_of mode base size limit) (region_of memory.old.host) result asleep.new.zone.held.session (region_of memory.new.host) }
 {
-    make_at(
-        alloc,
-        asleep,
-        memory,
-        large_spec_of(mode, base, size, limit),
-    )
+    let spec = large_spec_of(mode, base, size, limit);
+    told::done(make_at(alloc, asleep, memory, spec))
 }
 
 /// Makes a zone of these sizes that sleeps, if there may be one, where there is none.
@@ -51,39 +49,41 @@ fn make_at(
     asleep: &mut MhAsleep,
     memory: &mut MhMemory,
     spec: Option<ZoneSpec>,
-) -> i16
-    ensures { IsMadeAt asleep.old.zone.held.session spec (region_of memory.old.host) result asleep.new.zone.held.session (region_of memory.new.host) }
+) -> Result<(), OsErr>
+    ensures { IsMadeAt asleep.old.zone.held.session spec (region_of memory.old.host) (code_told (Some (done_outcome result))) asleep.new.zone.held.session (region_of memory.new.host) }
 {
     if asleep.is_live() {
-        return OsErr::ParamErr.code();
+        return Err(OsErr::ParamErr);
     }
-    match spec {
-        Some(spec) => make(alloc, asleep, memory, spec),
-        None => OsErr::ParamErr.code(),
-    }
+    make(alloc, asleep, memory, spec.ok_or(OsErr::ParamErr)?)
 }
 
 /// Makes a zone of these sizes that sleeps.
-fn make(alloc: Global, asleep: &mut MhAsleep, memory: &mut MhMemory, spec: ZoneSpec) -> i16
+fn make(
+    alloc: Global,
+    asleep: &mut MhAsleep,
+    memory: &mut MhMemory,
+    spec: ZoneSpec,
+) -> Result<(), OsErr>
     requires none { asleep.old.zone.held.session ≡ None }
-    ensures { IsMadeAt None (Some spec) (region_of memory.old.host) result asleep.new.zone.held.session (region_of memory.new.host) }
+    ensures { IsMadeAt None (Some spec) (region_of memory.old.host) (code_told (Some (done_outcome result))) asleep.new.zone.held.session (region_of memory.new.host) }
 {
     let Some(region) = memory.take() else {
-        return OsErr::ParamErr.code();
+        return Err(OsErr::ParamErr);
     };
     if region.len() != spec.limit() as usize {
         memory.put(region);
-        return OsErr::ParamErr.code();
+        return Err(OsErr::ParamErr);
     }
     match Session::create(alloc, spec) {
         Ok(session) => {
             memory.put(session.settle(region));
             asleep.put(session);
-            NO_ERR
+            Ok(())
         }
         Err(_) => {
             memory.put(region);
-            OsErr::MemFullErr.code()
+            Err(OsErr::MemFullErr)
         }
     }
 }

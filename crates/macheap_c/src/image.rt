@@ -1,9 +1,12 @@
 //! The bytes of a zone.
 
-ghost use Rattle.std.specs.Prelude.{length};
-ghost use Rattle.macheap_c.specs.Image.{ImageTold, Shows, size_of, sized};
+ghost use Rattle.std.specs.Prelude.{length, Some};
+ghost use Rattle.mac_base.specs.Outcomes.{done_outcome};
+ghost use Rattle.held_zone.specs.Told.{code_told};
+ghost use Rattle.macheap_c.specs.Image.{ImageShown, ImageTold, size_of, sized};
 
-use held_zone::told::NO_ZONE;
+use held_zone::session::Session;
+use held_zone::told::{self, NO_ZONE};
 use held_zone::zone::MhZone;
 use mac_base::error::{NO_ERR, OsErr};
 use std::alloc::Global;
@@ -36,21 +39,20 @@ pub extern "C" fn mh_image(alloc: Global, zone: &mut MhZone, bytes: &mut [u8]) -
     let Some(session) = zone.take(alloc) else {
         return NO_ZONE;
     };
-    let code = match session.memory.image() {
-        Ok(image) => copied(image, bytes),
-        Err(code) => code.code(),
-    };
+    let copied = copy_image(&session, bytes);
     zone.put(session);
-    code
+    told::done(copied)
 }
 
-/// Copies bytes over just as many others; paramErr where there are more or fewer.
-fn copied(bytes: &[u8], place: &mut [u8]) -> i16
-    ensures { Shows (sized (length place.old) bytes.now) result place.old place.new }
+/// Copies the bytes of a zone over just as many others. paramErr where there are more or fewer, memLockedErr where a
+/// block is lent.
+fn copy_image(session: &Session, bytes: &mut [u8]) -> Result<(), OsErr>
+    ensures { ImageShown (sized (length bytes.old)) session.now.zone (code_told (Some (done_outcome result))) bytes.old bytes.new }
 {
-    if bytes.len() != place.len() {
-        return OsErr::ParamErr.code();
+    let image = session.memory.image()?;
+    if image.len() != bytes.len() {
+        return Err(OsErr::ParamErr);
     }
-    place.copy_from_slice(bytes);
-    NO_ERR
+    bytes.copy_from_slice(image);
+    Ok(())
 }

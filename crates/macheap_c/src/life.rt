@@ -1,10 +1,12 @@
 //! How a zone begins and ends.
 
-ghost use Rattle.std.specs.Prelude.{◌≡◌};
+ghost use Rattle.std.specs.Prelude.{◌≡◌, Some};
+ghost use Rattle.mac_base.specs.Outcomes.{done_outcome};
+ghost use Rattle.held_zone.specs.Told.{code_told};
 ghost use Rattle.macheap_c.specs.Life.{Ends, IsMade, heads_of, large_sizes_of, sizes_of};
 
 use held_zone::session::Session;
-use held_zone::told::NO_ZONE;
+use held_zone::told::{self, NO_ZONE};
 use held_zone::zone::MhZone;
 use mac_base::block::HeadKind;
 use mac_base::error::{NO_ERR, OsErr};
@@ -24,7 +26,7 @@ pub extern "C" fn mh_make_zone(
 ) -> i16
     ensures { IsMade zone.old.held.session (sizes_of mode base size limit) result zone.new.held.session }
 {
-    make(alloc, zone, spec_of(mode, base, size, limit))
+    told::done(make(alloc, zone, spec_of(mode, base, size, limit)))
 }
 
 /// As `mh_make_zone`, and the zone may be large: up to 1 GB with the blocks of mode 32, and up to the end of the 24-bit
@@ -40,26 +42,20 @@ pub extern "C" fn mh_make_zone_large(
 ) -> i16
     ensures { IsMade zone.old.held.session (large_sizes_of mode base size limit) result zone.new.held.session }
 {
-    make(alloc, zone, large_spec_of(mode, base, size, limit))
+    told::done(make(alloc, zone, large_spec_of(mode, base, size, limit)))
 }
 
 /// Makes a zone of these sizes, if there may be one, where there is none.
-fn make(alloc: Global, zone: &mut MhZone, spec: Option<ZoneSpec>) -> i16
-    ensures { IsMade zone.old.held.session spec result zone.new.held.session }
+fn make(alloc: Global, zone: &mut MhZone, spec: Option<ZoneSpec>) -> Result<(), OsErr>
+    ensures { IsMade zone.old.held.session spec (code_told (Some (done_outcome result))) zone.new.held.session }
 {
     if zone.is_live() {
-        return OsErr::ParamErr.code();
+        return Err(OsErr::ParamErr);
     }
-    let Some(spec) = spec else {
-        return OsErr::ParamErr.code();
-    };
-    match Session::create(alloc, spec) {
-        Ok(session) => {
-            zone.put(session);
-            NO_ERR
-        }
-        Err(_) => OsErr::MemFullErr.code(),
-    }
+    let spec = spec.ok_or(OsErr::ParamErr)?;
+    let session = Session::create(alloc, spec).map_err(|_| OsErr::MemFullErr)?;
+    zone.put(session);
+    Ok(())
 }
 
 /// The sizes that are asked for, where a zone may have them.
