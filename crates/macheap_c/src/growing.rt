@@ -1,7 +1,7 @@
 //! The grow-zone procedure of C: answers that are queued before a call, and what a call asked, which is read after it.
 
-ghost use Rattle.std.specs.Prelude.{◌≡◌, option_map};
-ghost use Rattle.std.specs.List.{list_all, slice_get};
+ghost use Rattle.std.specs.Prelude.{◌≡◌, IfSome, is_some, option_map};
+ghost use Rattle.std.specs.List.{slice_get};
 ghost use Rattle.mac_base.specs.GrowZone.{Ask};
 ghost use Rattle.macheap_c.specs.Growing.{AnswerTold, IsShown, answer_of, ask_at, asks_made, carried_at, carried_for, is_known, release_of, shown_ask, shown_carried};
 
@@ -14,13 +14,16 @@ use mac_base::handle::{Handle, Ptr};
 use mac_base::releasing::ReleasingCall;
 use std::alloc::Global;
 
+/// The kind of a place of an answer that has no call.
+const NO_CALL: u32 = 0;
+
 /// The kind of a call DisposeHandle of an answer.
 const DISPOSE_HANDLE: u32 = 1;
 
 /// That of a DisposePtr.
 const DISPOSE_PTR: u32 = 2;
 
-/// That of an EmptyHandle, the last of the kinds. Where there is no call, the kind is 0.
+/// That of an EmptyHandle, the last of the kinds.
 const EMPTY_HANDLE: u32 = 3;
 
 /// A call of an answer, or none: its kind (0 none, 1 DisposeHandle, 2 DisposePtr, 3 EmptyHandle) and its operand.
@@ -99,37 +102,30 @@ fn queued(answer: &MhAnswer) -> Option<Answer>
         seventh,
         eighth,
     } = *answer;
-    if !are_known(&[first, second, third, fourth, fifth, sixth, seventh, eighth]) {
-        return None;
-    }
     let calls = [
-        release(first),
-        release(second),
-        release(third),
-        release(fourth),
-        release(fifth),
-        release(sixth),
-        release(seventh),
-        release(eighth),
+        release(first)?,
+        release(second)?,
+        release(third)?,
+        release(fourth)?,
+        release(fifth)?,
+        release(sixth)?,
+        release(seventh)?,
+        release(eighth)?,
     ];
     Some(Answer::new(calls, value))
 }
 
-/// Whether all these places are of known kinds.
-fn are_known(places: &[MhRelease]) -> bool
-    ensures { result ≡ list_all is_known places.now }
+/// The call at a place of an answer, or that it has none, if the place is of a known kind.
+fn release(place: MhRelease) -> Option<Option<ReleasingCall>>
+    ensures known { is_some result ≡ is_known place }
+    ensures call { IfSome result (λ call. call ≡ release_of place) }
 {
-    places.iter().all(|place| place.kind <= EMPTY_HANDLE)
-}
-
-/// The call at a place of an answer, if it has one.
-fn release(place: MhRelease) -> Option<ReleasingCall>
-    ensures { result ≡ release_of place }
-{
+    let operand = place.operand;
     match place.kind {
-        DISPOSE_HANDLE => Some(ReleasingCall::DisposesHandle(Handle::new(place.operand))),
-        DISPOSE_PTR => Some(ReleasingCall::DisposesPtr(Ptr::new(place.operand))),
-        EMPTY_HANDLE => Some(ReleasingCall::Empties(Handle::new(place.operand))),
+        NO_CALL => Some(None),
+        DISPOSE_HANDLE => Some(Some(ReleasingCall::DisposesHandle(Handle::new(operand)))),
+        DISPOSE_PTR => Some(Some(ReleasingCall::DisposesPtr(Ptr::new(operand)))),
+        EMPTY_HANDLE => Some(Some(ReleasingCall::Empties(Handle::new(operand)))),
         _ => None,
     }
 }
