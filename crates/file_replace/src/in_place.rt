@@ -223,13 +223,14 @@ fn refuse_foreign(file: &File, journal: &File) -> io::Result<()> {
     Ok(())
 }
 
-/// A file and its journal as a store.
+/// A file and its journal as a store, in which the open journal is the journal.
 fn store_of<W: PairWorld>(
     rt: &HostRuntime,
     file: &File,
     journal: File,
 ) -> io::Result<Journal<FilePair<W>>>
-    ensures { IfOk result (λ store. store.pair.log.events ≡ []) }
+    ensures start { IfOk result (λ store. store.pair.log.events ≡ []) }
+    ensures journal { IfOk result (λ store. store.pair.journal.file ≡ journal) }
 {
     refuse_foreign(file, &journal)?;
     let fork = HostFile::new(file.try_clone()?);

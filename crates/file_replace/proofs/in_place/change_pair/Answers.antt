@@ -5,4 +5,4 @@ pub returns : goal.returns
 returns g c =
     let events = c.change-reached.new.store.pair.log.events in
     let start = c.in_ok-store.store.pair.log.events in
-    (events, files_changed (g.W.PairWorld.held 1) start events c.in_ok-store.ensures c.args.bytes.now c.change-reached.result c.change-reached.ensures, c.note_pair.ensures)
+    (events, files_changed (g.W.PairWorld.held 1) start events c.in_ok-store.ensures.start c.args.bytes.now c.change-reached.result c.change-reached.ensures, c.note_pair.ensures)

@@ -12,7 +12,7 @@ returns-in-Ok g c =
     let recovers = c.recover-done.ensures.recovers in
     let done : c.is_ok.result ≡ true = c.is_ok.ensures.value ∙ ap is_ok c.in-Ok.is in (
       events,
-      files_settled (g.W.PairWorld.held 0) start events c.in_ok-store.ensures true
+      files_settled (g.W.PairWorld.held 0) start events c.in_ok-store.ensures.start true
           (λ honest. record { same = (recovers honest).same; ready = λ told. rw c.in-Ok.is at (recovers honest).ready; any_moment = (recovers honest).any_moment }),
       c.note_pair.ensures ∙ ap (λ (is : Bool). InPlace (Settle is) events ∷ c.args.log.now.events) done,
     )
@@ -25,7 +25,7 @@ returns g c =
     let done : c.is_ok.result ≡ false = c.is_ok.ensures.value ∙ ap is_ok c.in-Err.is in
     inr (
       events,
-      files_settled (g.W.PairWorld.held 0) start events c.in_ok-store.ensures false
+      files_settled (g.W.PairWorld.held 0) start events c.in_ok-store.ensures.start false
           (λ honest. record { same = (recovers honest).same; ready = λ told. absurd (cc told); any_moment = (recovers honest).any_moment }),
       c.note_pair.ensures ∙ ap (λ (is : Bool). InPlace (Settle is) events ∷ c.args.log.now.events) done,
     )
