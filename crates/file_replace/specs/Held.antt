@@ -21,7 +21,7 @@ use Rattle.file_replace.specs.Place.{Answered}
 use Rattle.file_replace.specs.OnPlace.{answered}
 use Rattle.file_replace.specs.Calls.{HeldAt, ReplacesAt}
 use Rattle.file_replace.specs.Replacing.{CallsOf}
-use Rattle.file_replace.specs.InPlace.{ChangesSo, Held, IsSettled, Log, NamesJournal, journal_name}
+use Rattle.file_replace.specs.InPlace.{ChangesSo, Held, IsSettled, Log, NamesJournal, SettlesSo, journal_name}
 
 -- these are the calls of a replacement that ended so, and its path has what this leaves
 abbrev pub IsReplaced : HeldAt → Option ℕ → List ℕ → Result FolderSync (Fault Error) → List Answered → Type 0
@@ -97,6 +97,14 @@ IsUnopened (refusals.NoBackup name stop) = ⊥
 IsUnopened (refusals.InPlace cut) = ⊥
 IsUnopened refusal = ⊤
 
+-- what was done where a path wasn't opened: nothing, or its journal couldn't be used
+abbrev pub LeftSo : Held → NotReplaced → Log → Log → Type 0
+LeftSo held refusal old new = (new ≡ old) ⊎ ((path : List ℕ) × SettlesSo {T = ⊤} held path (Err refusal) old new)
+
+-- what was done where the first is said may have been done where the second is
+abbrev pub LeavesSame : NotReplaced → NotReplaced → Type 0
+LeavesSame first second = (held : Held) (old new : Log) → LeftSo held first old new → LeftSo held second old new
+
 -- what is no regular file was written to as it is
 abbrev pub WritesThrough : List ℕ → List ℕ → Bool → Log → Type 0
 WritesThrough path bytes ok new = new ≡ Put path (answered calls.Write ok bytes ∷ []) ∷ []
@@ -114,7 +122,7 @@ WritesSo path bytes (Ok outcome) new = (outcome ≡ Written NotOffered) × Write
 WritesSo path bytes (Err refusal) new = IsUnopened refusal × WritesThrough path bytes false new
 
 -- Bytes were written at a path: to the file that is there, once it was settled, as a new file, or through to what is no
--- regular file. Else the path wasn't opened, and no call made.
+-- regular file. Else the path wasn't opened, and at most its journal was tried.
 abbrev pub Saves : HeldAt → Held → Held → List ℕ → List ℕ → Result Outcome NotReplaced → Log → Type 0
 Saves there settled held path bytes result new = ((start : Log) × (followed : List ℕ) × (mode : ℕ) × IsSettled settled [] start × PutsFile there held followed mode bytes result start new)
-    ⊎ PutsNew there bytes result [] new ⊎ WritesSo path bytes result new
+    ⊎ PutsNew there bytes result [] new ⊎ WritesSo path bytes result new ⊎ IsErrAnd result (λ refusal. IsUnopened refusal × LeftSo settled refusal [] new)

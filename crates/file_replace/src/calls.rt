@@ -67,6 +67,13 @@ pub enum HeldCall {
 /// What was done for a file, the newest first.
 pub type HeldCalls = Record<HeldCall>;
 
+/// The same record once more.
+pub(crate) fn copied(log: &HeldCalls) -> HeldCalls
+    ensures { result.events ≡ log.now.events }
+{
+    Record::of_events_beside(log, &(), &())
+}
+
 /// Notes the calls that a file took, and at which path.
 pub(crate) fn note_at(log: &mut HeldCalls, path: &str, calls: &PlaceCalls)
     ensures { log.new.events ≡ Put path.now calls.now.events ∷ log.old.events }

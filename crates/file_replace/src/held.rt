@@ -6,10 +6,10 @@ ghost use Rattle.file_replace.specs.OnPlace.{answered};
 ghost use Rattle.file_replace.specs.declared.calls.HeldCall.TheVariants.{Put};
 ghost use Rattle.file_replace.specs.declared.held.Outcome.TheVariants.{Written};
 ghost use Rattle.file_replace.specs.declared.place.FolderSync.TheVariants.{NotOffered};
-ghost use Rattle.file_replace.specs.Held.{BacksUp, backup_name, IsBusy, IsSameFile, IsUnopened, PutAt, PutsFile, PutsInPlace, PutsNew, ReplacesHeld, Saves, TellsNames};
+ghost use Rattle.file_replace.specs.Held.{BacksUp, backup_name, IsBusy, IsSameFile, IsUnopened, LeavesSame, LeftSo, PutAt, PutsFile, PutsInPlace, PutsNew, ReplacesHeld, Saves, TellsNames};
 ghost use Rattle.file_replace.specs.InPlace.{IsSettled};
 
-use crate::calls::{Call, HeldCalls, JournalCall, Noted, note, note_at, note_name};
+use crate::calls::{Call, HeldCalls, JournalCall, Noted, copied, note, note_at, note_name};
 use crate::host_place::FileReplacer;
 use crate::in_place::{change_in_place, journal_of, may_be_there, settle_in_place};
 use crate::links::{followed, is_of};
@@ -197,23 +197,30 @@ fn is_busy(stop: &Stop) -> bool
 
 impl Held {
     /// Opens a file that is to be replaced, and locks it. A link is followed: the file that it leads to is replaced.
-    /// Where a change of it was cut short, it is settled by its journal.
-    pub fn open<W: PairWorld>(rt: &HostRuntime, path: &str) -> Result<Held, NotReplaced>
+    /// Where a change of it was cut short, it is settled by its journal. What is done is noted in a record that begins
+    /// anew, also where this fails.
+    pub fn open<W: PairWorld>(
+        rt: &HostRuntime,
+        path: &str,
+        log: &mut HeldCalls,
+    ) -> Result<Held, NotReplaced>
         ensures start { IfOk result (λ held. IsSettled (W.held 0) [] held.log.events) }
+        ensures noted { IfOk result (λ held. held.log.events ≡ log.new.events) }
         ensures refuses { IfErr result IsUnopened }
+        ensures left { IfErr result (λ refusal. LeftSo (W.held 0) refusal [] log.new.events) }
     {
+        *log = Record::new();
         let Some(path) = regular_file(rt, path).map_err(unopened)? else {
             return Err(NotReplaced::NotAFile);
         };
         let file = open_locked(rt, &path)?;
-        let mut log = Record::new();
-        settle_in_place::<W>(rt, &file, &path, &mut log)?;
         let mode = mode_of(&file).map_err(unopened)?;
+        settle_in_place::<W>(rt, &file, &path, log)?;
         Ok(Held {
             file,
             path,
             mode,
-            log,
+            log: copied(log),
         })
     }
 
@@ -373,14 +380,6 @@ fn put_new<F: FolderWorld>(
     }
 }
 
-/// Whether a path wasn't opened since there is no file.
-fn is_missing(refusal: &NotReplaced) -> bool {
-    match refusal {
-        NotReplaced::Open(error) => error.kind() == ErrorKind::NotFound,
-        _ => false,
-    }
-}
-
 /// Writes a file of these bytes, and notes the calls in a record that begins anew. Where there is one, it is replaced,
 /// and keeps its mode; so the path has all of the new file or what it had before. What is no regular file, as a device
 /// or a pipe, is written to as it is.
@@ -392,11 +391,12 @@ pub fn save<W: PairWorld, F: FolderWorld>(
 ) -> Result<Outcome, NotReplaced>
     ensures { Saves (F.held 0) (W.held 0) (W.held 1) path.now bytes.now result log.new.events }
 {
-    *log = Record::new();
-    match Held::open::<W>(rt, path) {
+    match Held::open::<W>(rt, path, log) {
         Ok(held) => held.saved::<W, F>(rt, bytes, log),
         Err(NotReplaced::NotAFile) => write_through(rt, log, path, bytes),
-        Err(refusal) if is_missing(&refusal) => put_new::<F>(rt, path, bytes, log),
+        Err(NotReplaced::Open(error)) if error.kind() == ErrorKind::NotFound => {
+            put_new::<F>(rt, path, bytes, log)
+        }
         Err(refusal) => Err(refusal),
     }
 }
@@ -404,7 +404,8 @@ pub fn save<W: PairWorld, F: FolderWorld>(
 /// Why a file that has a journal isn't settled, where it can't be opened.
 fn unsettled(journal: PathBuf, refusal: NotReplaced) -> NotReplaced
     requires { IsUnopened refusal }
-    ensures { IsUnopened result }
+    ensures refuses { IsUnopened result }
+    ensures left { LeavesSame refusal result }
 {
     let error = match refusal {
         NotReplaced::Open(error) => error,
@@ -423,6 +424,7 @@ pub fn settle<W: PairWorld>(
 ) -> Result<(), NotReplaced>
     ensures settles { OnOk result (IsSettled (W.held 0) [] log.new.events) }
     ensures refuses { IfErr result IsUnopened }
+    ensures left { IfErr result (λ refusal. LeftSo (W.held 0) refusal [] log.new.events) }
 {
     *log = Record::new();
     let path = followed(rt, path).map_err(unopened)?;
@@ -431,11 +433,8 @@ pub fn settle<W: PairWorld>(
         note_name(log, JournalCall::Look(false));
         return Ok(());
     }
-    match Held::open::<W>(rt, path.as_str()) {
-        Ok(held) => {
-            *log = held.into_log();
-            Ok(())
-        }
+    match Held::open::<W>(rt, path.as_str(), log) {
+        Ok(_) => Ok(()),
         Err(refusal) => Err(unsettled(journal, refusal)),
     }
 }

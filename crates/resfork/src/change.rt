@@ -60,7 +60,7 @@ fn change_in_place(
 ) -> Result<u8, Problem>
     ensures { IfOk result (λ status. status ≡ DONE) }
 {
-    let mut held = Held::open::<UnknownPair>(rt, target.file)?;
+    let mut held = Held::open::<UnknownPair>(rt, target.file, &mut Record::new())?;
     let old = read_file(rt.alloc(), held.file()).map_err(Problem::Read)?;
     let Some(changed) = changed_of(rt, &old, from, edit)? else {
         return Ok(DONE);
