@@ -5,7 +5,7 @@ use Rattle.std.specs.Path.{path_buf_bytes}
 use Rattle.std.specs.IoError.{error_kind}
 use Rattle.std.specs.declared.io.Error.{Error}
 use Rattle.std.specs.declared.io.ErrorKind.TheVariants.{ResourceBusy}
-use Rattle.file_replace.specs.declared.calls.HeldCall.TheVariants.{Put}
+use Rattle.file_replace.specs.declared.calls.HeldCall.TheVariants.{OpenFolder, Put}
 use Rattle.file_replace.specs.declared.calls.Call.TheVariants as calls
 use Rattle.file_replace.specs.declared.held.Held as declared
 use Rattle.file_replace.specs.declared.held.Outcome.{Outcome}
@@ -27,15 +27,22 @@ use Rattle.file_replace.specs.InPlace.{ChangesSo, Held, IsSettled, Log, NamesJou
 abbrev pub IsReplaced : HeldAt → Option ℕ → List ℕ → Result FolderSync (Fault Error) → List Answered → Type 0
 IsReplaced there mode bytes result calls = CallsOf mode bytes result [] calls × ReplacesAt there mode bytes result calls
 
--- The file at the path was replaced, or why not, and a file that is left beside it is reported. Where the path's folder
--- can't be opened, no call was made.
+-- the file at the path was replaced, or why not, and a file that is left beside it is reported
 abbrev pub EndsSo : HeldAt → Option ℕ → List ℕ → Result FolderSync Stop → List Answered → Type 0
 EndsSo there mode bytes (Ok answer) calls = IsReplaced there mode bytes (Ok answer) calls
-EndsSo there mode bytes (Err stop) calls = ((calls ≡ []) × (stop.step ≡ Create) × (stop.left ≡ None)) ⊎ IsReplaced there mode bytes (Err (record { step = stop.step; error = stop.error; is_left = is_some stop.left })) calls
+EndsSo there mode bytes (Err stop) calls = IsReplaced there mode bytes (Err (record { step = stop.step; error = stop.error; is_left = is_some stop.left })) calls
 
--- a file was put at this path, and ended so
+-- a file was put at this path, whose folder is open, and ended so
+abbrev pub PutOpen : HeldAt → List ℕ → Option ℕ → List ℕ → Result FolderSync Stop → Log → Log → Type 0
+PutOpen there path mode bytes result old new = (calls : List Answered) × (new ≡ Put path calls ∷ old) × EndsSo there mode bytes result calls
+
+-- the folder of this path couldn't be opened, so no call was made there
+abbrev pub IsShut : List ℕ → Stop → Log → Log → Type 0
+IsShut path stop old new = (stop.step ≡ Create) × (stop.left ≡ None) × (new ≡ Put path [] ∷ OpenFolder false ∷ old)
+
+-- a file was put at this path once its folder was open, and ended so; or that can't be opened
 abbrev pub PutAt : HeldAt → List ℕ → Option ℕ → List ℕ → Result FolderSync Stop → Log → Log → Type 0
-PutAt there path mode bytes result old new = (calls : List Answered) × (new ≡ Put path calls ∷ old) × EndsSo there mode bytes result calls
+PutAt there path mode bytes result old new = PutOpen there path mode bytes result (OpenFolder true ∷ old) new ⊎ IsErrAnd result (λ stop. IsShut path stop old new)
 
 -- the same file is open
 abbrev pub IsSameFile : declared.Held → declared.Held → Type 0

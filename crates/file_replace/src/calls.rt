@@ -1,7 +1,7 @@
 //! The calls that were made at a path of the host, for clauses alone.
 
 ghost use Rattle.std.specs.Prelude.{◌≡◌, [], ◌∷◌};
-ghost use Rattle.file_replace.specs.declared.calls.HeldCall.TheVariants.{InPlace, Put};
+ghost use Rattle.file_replace.specs.declared.calls.HeldCall.TheVariants.{InPlace, OpenFolder, Put};
 
 use crate::changed::Reached;
 use crate::place::FolderSync;
@@ -58,6 +58,8 @@ pub enum JournalCall {
 /// What was done for a file.
 #[derive(Drop)]
 pub enum HeldCall {
+    /// It was to open the folder in which a file is put, to sync that, and whether it did.
+    OpenFolder(bool),
     /// A file was put at this path, by these calls.
     Put(LinkedList<u8>, LinkedList<(Noted, LinkedList<u8>)>),
     /// It was to be changed in its place, by these calls on it and its journal.
@@ -79,6 +81,13 @@ pub(crate) fn note_at(log: &mut HeldCalls, path: &str, calls: &PlaceCalls)
     ensures { log.new.events ≡ Put path.now calls.now.events ∷ log.old.events }
 {
     *log = Record::of_events_beside(log, &path, calls);
+}
+
+/// Notes whether the folder was opened in which a file is put.
+pub(crate) fn note_folder(log: &mut HeldCalls, is_done: bool)
+    ensures { log.new.events ≡ OpenFolder is_done ∷ log.old.events }
+{
+    *log = Record::of_events_beside(log, &is_done, &());
 }
 
 /// Notes what was done at a journal's name.

@@ -6,7 +6,7 @@ ghost use Rattle.file_replace.specs.OnPlace.{answered};
 ghost use Rattle.file_replace.specs.declared.calls.HeldCall.TheVariants.{Put};
 ghost use Rattle.file_replace.specs.declared.held.Outcome.TheVariants.{Written};
 ghost use Rattle.file_replace.specs.declared.place.FolderSync.TheVariants.{NotOffered};
-ghost use Rattle.file_replace.specs.Held.{BacksUp, backup_name, IsBusy, IsSameFile, IsUnopened, LeavesSame, LeftSo, PutAt, PutsFile, PutsInPlace, PutsNew, ReplacesHeld, Saves, TellsNames};
+ghost use Rattle.file_replace.specs.Held.{BacksUp, backup_name, IsBusy, IsSameFile, IsUnopened, LeavesSame, LeftSo, PutAt, PutOpen, PutsFile, PutsInPlace, PutsNew, ReplacesHeld, Saves, TellsNames};
 ghost use Rattle.file_replace.specs.InPlace.{IsSettled};
 
 use crate::calls::{Call, HeldCalls, JournalCall, Noted, copied, note, note_at, note_name};
@@ -136,7 +136,7 @@ fn put_there<F: FolderWorld>(
 ) -> Result<FolderSync, Stop>
     requires start { place.log.events ≡ [] }
     requires path { place.path.now ≡ path.now }
-    ensures { PutAt (F.held 0) (path_buf_bytes path.now) mode bytes.now result log.old.events log.new.events }
+    ensures { PutOpen (F.held 0) (path_buf_bytes path.now) mode bytes.now result log.old.events log.new.events }
 {
     let done = replace(&mut place, bytes, mode);
     note_at(log, path.as_str(), place.calls());
@@ -166,7 +166,7 @@ fn put<F: FolderWorld>(
 ) -> Result<FolderSync, Stop>
     ensures { PutAt (F.held 0) (path_buf_bytes path.now) mode bytes.now result log.old.events log.new.events }
 {
-    match FileReplacer::<OfFile<F>>::new(rt, path, 0) {
+    match FileReplacer::<OfFile<F>>::new(rt, path, 0, log) {
         Ok(place) => put_there(place, log, path, bytes, mode),
         Err(error) => {
             note_at(log, path.as_str(), &Record::new());

@@ -3,8 +3,9 @@
 ghost use Rattle.std.specs.Prelude.{◌≡◌, [], ◌∷◌, is_ok, is_some, IfOk, None, Ok, option_map};
 ghost use Rattle.fork_disk.specs.Disk.{Counts};
 ghost use Rattle.file_replace.specs.Calls.{seen_at};
+ghost use Rattle.file_replace.specs.declared.calls.HeldCall.TheVariants.{OpenFolder};
 
-use crate::calls::{Call, Noted, PlaceCalls, note};
+use crate::calls::{Call, HeldCalls, Noted, PlaceCalls, note, note_folder};
 use crate::links::folder_of;
 use crate::place::{FolderSync, Replaces};
 use crate::world::FolderWorld;
@@ -114,19 +115,23 @@ fn write_whole(rt: &HostRuntime, file: &mut File, bytes: &[u8]) -> io::Result<()
 
 impl<'a, W: FolderWorld> FileReplacer<'a, W> {
     /// The place of a path, which is no link, and beside which nothing was made so far. No other place of this world
-    /// may have its number.
+    /// may have its number. It is noted whether its folder was opened.
     pub fn new(
         rt: &'a HostRuntime,
         path: &'a PathBuf,
         number: u64,
+        log: &mut HeldCalls,
     ) -> io::Result<FileReplacer<'a, W>>
         ensures number { IfOk result (λ place. place.number ≡ number) }
         ensures path { IfOk result (λ place. place.path.now ≡ path.now) }
         ensures start { IfOk result (λ place. place.log.events ≡ []) }
+        ensures opens { log.new.events ≡ OpenFolder (is_ok result) ∷ log.old.events }
     {
+        let folder = open_folder(rt, path);
+        note_folder(log, folder.is_ok());
         Ok(FileReplacer {
             rt,
-            folder: open_folder(rt, path)?,
+            folder: folder?,
             path,
             beside: None,
             failures: 0,
