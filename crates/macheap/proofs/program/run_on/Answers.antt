@@ -10,7 +10,7 @@ returns-in-Err-clause-ends g c =
 
 pub returns-clause-ends : goal.returns-clause-ends
 returns-clause-ends g c =
-    let e = c.run-stores.ensures.ends in
+    let e = c.run-end.ensures.ends in
     let w = c.tell_wrong.ensures in (
       e.0,
       e.2,
@@ -20,6 +20,6 @@ returns-clause-ends g c =
         e.3,
         w.1,
         ran_on g.S.ForkStore c.args.spec _ c.args.stores c.in-Ok.stores c.in-Ok.is
-            (ran_over g.S.ForkStore c.args.spec _ c.in-Ok.stores.items _ _ c.run-stores.ensures.read_fault c.run-stores.ensures.write_fault e.4 c.status.ensures w.2),
+            (ran_over g.S.ForkStore c.args.spec _ c.in-Ok.stores.items _ _ c.run-end.ensures.read_fault c.run-end.ensures.write_fault e.4 c.status.ensures w.2),
       ),
     )
