@@ -93,6 +93,12 @@ fn device_failed() -> io::Error {
     io::Error::other("the device failed, or is full")
 }
 
+/// A journal that is open. It is a type of its own, so that it can't be taken for the file.
+#[derive(Drop)]
+struct OpenJournal {
+    file: File,
+}
+
 impl<'a> JournalName<'a> {
     /// The name of a file's journal.
     fn of(rt: &'a HostRuntime, path: &PathBuf) -> io::Result<JournalName<'a>>
@@ -106,7 +112,7 @@ impl<'a> JournalName<'a> {
     }
 
     /// Makes an empty journal, which its owner alone can read.
-    fn make(&self, log: &mut HeldCalls) -> io::Result<File>
+    fn make(&self, log: &mut HeldCalls) -> io::Result<OpenJournal>
         ensures { log.new.events ≡ did (JournalCall.Make (is_ok result)) ∷ log.old.events }
     {
         let made = OpenOptions::new()
@@ -116,18 +122,18 @@ impl<'a> JournalName<'a> {
             .mode(0o600)
             .open(self.rt, &self.name);
         note_name(log, JournalCall::Make(made.is_ok()));
-        made
+        Ok(OpenJournal { file: made? })
     }
 
     /// Opens the journal that is there, which is a file and no link.
-    fn open(&self) -> io::Result<File> {
+    fn open(&self) -> io::Result<OpenJournal> {
         let found = fs::symlink_metadata(self.rt, &self.name)?;
-        let journal = OpenOptions::new()
+        let file = OpenOptions::new()
             .read(true)
             .write(true)
             .open(self.rt, &self.name)?;
-        if is_of(&journal, &found)? && found.is_file() {
-            Ok(journal)
+        if is_of(&file, &found)? && found.is_file() {
+            Ok(OpenJournal { file })
         } else {
             Err(io::Error::other("it is no file"))
         }
@@ -227,14 +233,14 @@ fn refuse_foreign(file: &File, journal: &File) -> io::Result<()> {
 fn store_of<W: PairWorld>(
     rt: &HostRuntime,
     file: &File,
-    journal: File,
+    journal: OpenJournal,
 ) -> io::Result<Journal<FilePair<W>>>
     ensures start { IfOk result (λ store. store.pair.log.events ≡ []) }
-    ensures journal { IfOk result (λ store. store.pair.journal.file ≡ journal) }
+    ensures journal { IfOk result (λ store. store.pair.journal.file ≡ journal.file) }
 {
-    refuse_foreign(file, &journal)?;
+    refuse_foreign(file, &journal.file)?;
     let fork = HostFile::new(file.try_clone()?);
-    let pair = FilePair::new(fork, HostFile::new(journal), 0);
+    let pair = FilePair::new(fork, HostFile::new(journal.file), 0);
     Ok(Journal::new(rt.alloc(), pair))
 }
 
@@ -242,7 +248,7 @@ fn store_of<W: PairWorld>(
 fn change_pair<W: PairWorld>(
     rt: &HostRuntime,
     file: &File,
-    journal: File,
+    journal: OpenJournal,
     bytes: &[u8],
     log: &mut HeldCalls,
 ) -> io::Result<Reached>
@@ -314,7 +320,7 @@ fn ended(name: JournalName<'_>, reached: Reached, log: &mut HeldCalls) -> Result
 fn settle_pair<W: PairWorld>(
     rt: &HostRuntime,
     file: &File,
-    journal: File,
+    journal: OpenJournal,
     log: &mut HeldCalls,
 ) -> io::Result<()>
     ensures { SettlesPair (W.held 0) result log.old.events log.new.events }
