@@ -80,7 +80,7 @@ static bool are_linked(const uint8_t *bytes, uint32_t size, uint32_t mode) {
 
 /* Whether bytes are those of a zone that begins at BASE and has this size. */
 static bool is_zone(const uint8_t *bytes, uint32_t size, uint32_t mode) {
-    uint8_t header[HEADER] = {0};
+    uint8_t header[HEADER];
     uint32_t at, free_bytes = 0, lowest = 0, head = mode == 24 ? 8 : 12;
     bool was_free = false;
     Block block;
@@ -97,10 +97,10 @@ static bool is_zone(const uint8_t *bytes, uint32_t size, uint32_t mode) {
         contents[block.word] = at + head;
     }
     for (at = 0; at < size; at++) if (contents[at] && !is_slot[at]) return false;
+    /* all but bkLim, hFstFree, zcbFree and allocPtr is the guest's */
+    memcpy(header, bytes, HEADER);
     put(header, BASE + size);
-    memcpy(header + 8, bytes + 8, 4);
     put(header + 12, free_bytes);
-    header[21] = SLOTS;
     put(header + 48, lowest);
     return memcmp(header, bytes, HEADER) == 0 && are_linked(bytes, size, mode);
 }

@@ -9,7 +9,7 @@
 enum { BASE = 0x100000, SIZE = 2048, LIMIT = 2560, NOTHING = 0 };
 
 static uint8_t ram[LIMIT], right[LIMIT];
-/* what each byte is in, which of its bits may be other ones, and the block that has it */
+/* what part of the structure each byte is in, which of its bits may be other ones, and the block that has it */
 static uint32_t part[LIMIT];
 static uint8_t loose[LIMIT];
 static MhBlock holder[LIMIT];
@@ -49,7 +49,7 @@ static void made(Guest *guest, uint32_t mode) {
     memset(loose, 0, sizeof loose);
     memset(holder, 0, sizeof holder);
     IS(mh_first_block(&guest->zone, &at), MH_NO_ERR);
-    for (uint32_t i = 0; i < at - BASE; i++) part[i] = MH_ZONE_HEADER;
+    for (uint32_t i = 0; i < at - BASE; i++) part[i] = i / 4 == 1 || (i >= 16 && i < 48) ? NOTHING : MH_ZONE_HEADER;
     for (; mh_block(&guest->zone, at, &block) == MH_NO_ERR; at += block.size) {
         for (uint32_t i = 0; i < block.size; i++) {
             uint32_t place = at - BASE + i;
@@ -82,8 +82,8 @@ static void held(Guest *guest) {
     IS(mh_holder(&guest->zone, BASE, &block), MH_PARAM_ERR);
 }
 
-/* One byte differs in some bits, and all contents are others: mh_check says so where one of the bits is structure, and after
- * mh_repair the structure alone is as it was, and the zone wakes. */
+/* One byte differs in some bits, and all contents and the guest's fields of the zone's header are others: mh_check says so where one of
+ * the bits is structure, and after mh_repair the structure alone is as it was, with the flags that the guest set, and the zone wakes. */
 static void damaged(Guest *guest, uint32_t at, uint8_t change) {
     bool is_wrong = part[at] != NOTHING && (change & ~loose[at]);
     MhFault fault = {77, 77};
@@ -95,8 +95,14 @@ static void damaged(Guest *guest, uint32_t at, uint8_t change) {
     IS(mh_repair(&guest->asleep, &guest->memory), MH_NO_ERR);
     IS(guest->memory.start == ram && guest->memory.length == LIMIT && guest->memory.here, true);
     if (part[at] == NOTHING) ram[at] ^= change;
-    for (uint32_t i = 0; i < LIMIT; i++) IS(ram[i], part[i] == NOTHING ? (uint8_t)(i * 3 + at) : right[i]);
+    for (uint32_t i = 0; i < LIMIT; i++) {
+        uint8_t flags = i == at ? change & loose[i] : 0;
+        IS(ram[i], part[i] == NOTHING ? (uint8_t)(i * 3 + at) : right[i] ^ flags);
+    }
     IS(mh_check(&guest->asleep, &guest->memory, &fault), MH_NO_ERR);
+    WAKE(guest);
+    SLEEP(guest);
+    memcpy(ram, right, LIMIT);
     WAKE(guest);
     SLEEP(guest);
 }

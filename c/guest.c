@@ -58,14 +58,16 @@ static uint8_t *bytes_of(const Guest *guest, uint32_t handle) {
     return ram + ((guest->mode == 24 ? master & 0xFFFFFF : master) - BASE);
 }
 
-/* Which bits of each byte are structure: all of headers and master blocks, but for the flags of full master pointers of
- * mode 24. */
+/* Which bits of each byte are structure: all of headers and master blocks, but for the guest's fields of the zone's header,
+ * and the flags of full master pointers of mode 24. */
 static void mark(Guest *guest, uint8_t *bits) {
     uint32_t head = guest->mode == 24 ? 8 : 12, at = 0;
     MhBlock block;
     memset(bits, 0, LIMIT);
     IS(mh_first_block(&guest->zone, &at), MH_NO_ERR);
     memset(bits, 0xFF, at - BASE);
+    memset(bits + 4, 0, 4);
+    memset(bits + 16, 0, 32);
     for (; mh_block(&guest->zone, at, &block) == MH_NO_ERR; at += block.size) {
         memset(bits + (at - BASE), 0xFF, block.kind == MH_MASTER ? head + block.length : head);
         if (block.kind == MH_REL && guest->mode == 24) bits[block.owner - BASE] = 0x1F;
@@ -140,6 +142,112 @@ static void flags(void) {
     IS(mh_purge_mem(&guest.zone, number + 50), MH_NO_ERR);
     SLEEP(&guest);
     IS(word(second), 0);
+    ended(&guest);
+}
+
+/* The fields of the zone's header that are the guest's, as Inside Macintosh has them: each name, offset and length. */
+static const struct { const char *name; uint32_t at, count; } fields[] = {
+    {"purgePtr", 4, 4}, {"gzProc", 16, 4}, {"moreMast", 20, 2}, {"flags", 22, 2}, {"cntRel", 24, 2}, {"maxRel", 26, 2}, {"cntNRel", 28, 2},
+    {"maxNRel", 30, 2}, {"cntEmpty", 32, 2}, {"cntHandles", 34, 2}, {"minCBFree", 36, 4}, {"purgeProc", 40, 4}, {"sparePtr", 44, 4}};
+enum { FIELDS = sizeof fields / sizeof fields[0], HEADER = 52 };
+
+/* The header is as it was, but for the zcbFree and allocPtr that a call may change. */
+static void kept(int line, const uint8_t *now, const uint8_t *then) {
+    for (int f = 0; f < FIELDS; f++) same(line, fields[f].name, memcmp(now + fields[f].at, then + fields[f].at, fields[f].count), 0);
+}
+#define KEPT(now, then) kept(__LINE__, now, then)
+
+/* A guest writes its fields of the header, one after another and all at random, between calls: each is kept, as it left it, whatever the
+ * calls do, by mh_sleep, mh_image, mh_make_zone_of, mh_attach, mh_check and mh_repair. In a new zone they are zero, but for moreMast. */
+static void guest_fields(uint32_t mode) {
+    static const MhWritten first = {0, HEADER};
+    static uint8_t image[LIMIT];
+    uint8_t then[HEADER] = {0};
+    uint32_t handles[8] = {0}, number = 0;
+    size_t count = 0;
+    MhFault fault = {77, 77};
+    MhZone plain = MH_NO_ZONE;
+    Guest guest = made(4096, 8192, mode);
+    then[21] = 64;
+    KEPT(ram, then);
+    for (uint32_t n = 0; n < 200; n++) {
+        const uint32_t f = n % FIELDS;
+        for (uint32_t i = 0; n < 100 && i < fields[f].count; i++) ram[fields[f].at + i] = (uint8_t)below(256);
+        for (int all = 0; n >= 100 && all < FIELDS; all++)
+            for (uint32_t i = 0; i < fields[all].count; i++) ram[fields[all].at + i] = (uint8_t)below(256);
+        memcpy(then, ram, HEADER);
+        IS(mh_check(&guest.asleep, &guest.memory, &fault), MH_NO_ERR);
+        IS(memcmp(then, ram, HEADER), 0);
+        if (n % 2) WAKE(&guest);
+        else IS(mh_wake_written(&guest.zone, &guest.asleep, &guest.memory, &first, n % 4 / 2), MH_NO_ERR);
+        uint32_t *handle = &handles[below(8)];
+        if (!*handle) IS(mh_new_handle(&guest.zone, below(300), handle), MH_NO_ERR);
+        else if (mh_dispose_handle(&guest.zone, *handle) == MH_NO_ERR) *handle = 0;
+        if (n == 150) mh_max_appl_zone(&guest.zone);
+        IS(mh_compact_mem(&guest.zone, 4096, &number), MH_NO_ERR);
+        IS(mh_image_size(&guest.zone, &count), MH_NO_ERR);
+        IS(mh_image(&guest.zone, image, count), MH_NO_ERR);
+        KEPT(image, then);
+        SLEEP(&guest);
+        KEPT(ram, then);
+        IS(memcmp(ram, image, count), 0);
+        IS(mh_make_zone_of(&plain, BASE, (uint32_t)count, 8192, mode, image, count), MH_NO_ERR);
+        memset(image, 0, count);
+        IS(mh_image(&plain, image, count), MH_NO_ERR);
+        IS(memcmp(ram, image, count), 0);
+        IS(mh_end_zone(&plain), MH_NO_ERR);
+        MhAsleep other = MH_NO_ASLEEP;
+        IS(mh_attach(&other, &guest.memory, BASE, (uint32_t)count, 8192, mode), MH_NO_ERR);
+        IS(memcmp(ram, image, count), 0);
+        IS(mh_end_asleep(&guest.asleep), MH_NO_ERR);
+        guest.asleep = other;
+        ram[n % 4] ^= 0x11;
+        IS(mh_wake(&guest.zone, &guest.asleep, &guest.memory), MH_DAMAGED);
+        KEPT(ram, then);
+        IS(mh_check(&guest.asleep, &guest.memory, &fault), MH_DAMAGED);
+        IS(fault.offset == n % 4 && fault.part == MH_ZONE_HEADER, true);
+        IS(mh_repair(&guest.asleep, &guest.memory), MH_NO_ERR);
+        IS(memcmp(ram, image, count), 0);
+    }
+    ended(&guest);
+}
+
+/* A guest locks a handle by its master pointer, and damages the zone. mh_repair keeps the lock, so the block stays where it is; a master
+ * pointer that leads elsewhere gets the flags that the handle had. */
+static void locks_kept(void) {
+    uint32_t low = 0, locked = 0, purged = 0, number = 0, place;
+    Guest guest = made(4096, 4096, 24);
+    WAKE(&guest);
+    IS(mh_new_handle(&guest.zone, 100, &low), MH_NO_ERR);
+    IS(mh_new_handle(&guest.zone, 100, &locked), MH_NO_ERR);
+    IS(mh_new_handle(&guest.zone, 100, &purged), MH_NO_ERR);
+    IS(mh_hpurge(&guest.zone, purged), MH_NO_ERR);
+    SLEEP(&guest);
+    place = word(locked);
+    ram[locked - BASE] |= MH_LOCK;
+    ram[purged - BASE] = MH_LOCK | MH_RESOURCE;
+    ram[purged - BASE + 3] ^= 4;
+    ram[48] ^= 1;
+    IS(mh_wake(&guest.zone, &guest.asleep, &guest.memory), MH_DAMAGED);
+    IS(mh_repair(&guest.asleep, &guest.memory), MH_NO_ERR);
+    IS(word(locked), (int64_t)(place | 0x80000000));
+    WAKE(&guest);
+    IS(mh_hget_state(&guest.zone, locked, &number), MH_NO_ERR);
+    IS(number, MH_LOCK);
+    IS(mh_hget_state(&guest.zone, purged, &number), MH_NO_ERR);
+    IS(number, MH_PURGE);
+    IS(mh_dispose_handle(&guest.zone, low), MH_NO_ERR);
+    IS(mh_compact_mem(&guest.zone, 4096, &number), MH_NO_ERR);
+    SLEEP(&guest);
+    IS(word(locked), (int64_t)(place | 0x80000000));
+    ram[locked - BASE] ^= MH_LOCK | 0x10;
+    IS(mh_wake(&guest.zone, &guest.asleep, &guest.memory), MH_DAMAGED);
+    IS(mh_repair(&guest.asleep, &guest.memory), MH_NO_ERR);
+    IS(word(locked), place);
+    WAKE(&guest);
+    IS(mh_compact_mem(&guest.zone, 4096, &number), MH_NO_ERR);
+    SLEEP(&guest);
+    IS(word(locked) < place, true);
     ended(&guest);
 }
 
@@ -418,6 +526,41 @@ static void lent_elsewhere(void) {
     ended(&guest);
 }
 
+/* A guest's grow-zone procedure empties one handle a call, which frees about 800 bytes, and the guest wants 40,000: the
+ * call is made again until it has them, 44 times, or until the procedure has nothing left. */
+static void patient(uint32_t mode) {
+    enum { MANY = 75, SIZE = 0x10000 };
+    uint32_t handles[MANY] = {0}, wanted = 0, emptied = 0, asks = 0;
+    Guest guest = made(SIZE, SIZE, mode);
+    WAKE(&guest);
+    for (int n = 0; n < MANY; n++) IS(mh_new_handle(&guest.zone, 792, &handles[n]), MH_NO_ERR);
+    SLEEP(&guest);
+    for (int is_last = 0; is_last < 2; is_last++) {
+        MhErr code;
+        for (;;) {
+            uint32_t count = 0;
+            MhAsk ask = {0, 0, 0, 0};
+            WAKE(&guest);
+            code = mh_new_handle(&guest.zone, 40000, &wanted);
+            IS(mh_asked(&guest.zone, &count), MH_NO_ERR);
+            IS(count, code == MH_NO_ERR ? 0 : 1);
+            if (count) IS(mh_ask(&guest.zone, 0, &ask), MH_NO_ERR);
+            SLEEP(&guest);
+            if (!count) break;
+            IS(ask.needed, mode == 24 ? 40008 : 40012);
+            IS(ask.answered, 0);
+            asks++;
+            if (emptied == MANY) break;
+            WAKE(&guest);
+            IS(mh_empty_handle(&guest.zone, handles[emptied++]), MH_NO_ERR);
+            SLEEP(&guest);
+        }
+        IS(code, is_last ? MH_MEM_FULL_ERR : MH_NO_ERR);
+        IS(asks, is_last ? MANY + 1 : 44);
+    }
+    ended(&guest);
+}
+
 /* What can't be done, and changes nothing. */
 static void misuse(void) {
     static uint8_t elsewhere[4096];
@@ -501,12 +644,15 @@ int main(int count, char **words) {
     if (count > 1 && strcmp(words[1], "time") == 0) return timed();
     for (uint32_t mode = 24; mode <= 32; mode += 8) {
         lives(mode);
+        guest_fields(mode);
         each_byte(mode);
         random_calls(mode, 20000);
         told_writes(mode, 20000);
         lent_asleep(mode, 20000);
+        patient(mode);
     }
     flags();
+    locks_kept();
     damages(600);
     lent_elsewhere();
     misuse();

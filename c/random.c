@@ -179,9 +179,10 @@ static uint32_t word_at(const uint8_t *bytes, uint32_t at) {
     return (uint32_t)bytes[at] << 24 | (uint32_t)bytes[at + 1] << 16 | (uint32_t)bytes[at + 2] << 8 | bytes[at + 3];
 }
 
-/* A byte of the zone's header is another one: the zone sleeps on until it is right again. */
+/* A byte of bkLim, hFstFree, zcbFree or allocPtr is another one: the zone sleeps on until it is right again. */
 static bool is_damaged(void) {
-    uint32_t at = below(52);
+    static const uint8_t own[] = {0, 1, 2, 3, 8, 9, 10, 11, 12, 13, 14, 15, 48, 49, 50, 51};
+    uint32_t at = own[below(sizeof own)];
     uint8_t by = (uint8_t)(1 + below(255));
     ram[at] ^= by;
     bool told_so = mh_wake(&zone, &asleep, &memory) == MH_DAMAGED;

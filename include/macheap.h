@@ -1,6 +1,16 @@
-/* The classic Macintosh Memory Manager over one heap zone, for programs in C and C++.
+/* The classic Macintosh Memory Manager over one heap zone, for programs in C and C++. Whose bytes are which, and when:
  *
- * Each function is one call, and answers with an OSErr: 0 (noErr) or a negative code. A call that is refused writes
+ *     calls    mh_make_zone      mh_lend    mh_return    mh_end_zone
+ *     zone     |------------- the library's -------------|
+ *     block                      |- yours --|
+ *
+ *     calls    mh_make_zone_at   mh_wake            mh_sleep   mh_end_asleep
+ *     zone     |----- yours -----|- the library's --|- yours --|
+ *     block    one that is lent is yours all the time, until mh_return
+ *
+ * Yours are the bytes that you, or a guest that you run, read and write; but not while a call on their zone runs.
+ *
+ * Each function is one call, and returns an OSErr: 0 (noErr) or a negative code. A call that is refused writes
  * nothing through its pointers (but mh_check, whose fault comes with MH_DAMAGED). What each does, to the byte, is what
  * the project's contracts say of the call of that name: crates/macheap_c/specs, and docs/THEOREM.md.
  *
@@ -17,7 +27,7 @@
  *    them.
  *  - The ranges of mh_wake_written have every byte that was written since the zone fell asleep.
  *
- * What is tested, and answered with a code that changes nothing: any call before mh_make_zone, after mh_end_zone or
+ * What is tested, and refused with a code and no change: any call before mh_make_zone, after mh_end_zone or
  * while the zone sleeps, mh_make_zone on a zone that is there, mh_end_zone twice (paramErr); any number as a handle, a
  * pointer, a size, an offset or an address, live or not, but not as a range of mh_wake_written. A zone that is
  * forgotten keeps its memory: end it. All memory of the host is taken by the call that makes a zone.
@@ -65,8 +75,9 @@ typedef struct MhZone {
  * $1000000 at most. `mode` is 24 or 32: blocks with headers of 8 or of 12 bytes. Else paramErr. */
 MhErr mh_make_zone(MhZone *zone, uint32_t base, uint32_t size, uint32_t limit, uint32_t mode);
 /* The same for a large zone. Only two bounds are other ones: limit 1073741824 at most, and base + limit $1000000 at
- * most in mode 24, whose headers and master pointers have no more bits, and below 2^32 in mode 32. The host gives twice
- * the limit's bytes, with the index; most of it is touched only as blocks come to lie there. */
+ * most in mode 24, whose headers and master pointers have no more bits, and below 2^32 in mode 32. The host gives 1.3
+ * times the limit's bytes, with the index, and 1.1 times the limit is written at once: a zone whose limit is 64 MB has
+ * 71 MB resident from the start. */
 MhErr mh_make_zone_large(MhZone *zone, uint32_t base, uint32_t size, uint32_t limit, uint32_t mode);
 /* Ends a zone. It is MH_NO_ZONE then, and may be made again. */
 MhErr mh_end_zone(MhZone *zone);
@@ -142,7 +153,7 @@ MhErr mh_peek(MhZone *zone, uint32_t block, uint32_t offset, uint8_t *bytes, siz
 MhErr mh_poke(MhZone *zone, uint32_t block, uint32_t offset, const uint8_t *bytes, size_t count);
 
 /* Loans. mh_lend lends a pointer's block, or that of a locked handle: then its bytes are C's, until mh_return. The
- * block stays where it is, and each call that would read, write, free, resize or unlock it answers memLockedErr. C
+ * block stays where it is, and each call that would read, write, free, resize or unlock it is memLockedErr. C
  * reads and writes the bytes by copies, or itself through a window: mh_window gives the address of the first of them
  * and how many there are. The window is C's until mh_return of the block or mh_end_zone, whatever other calls are made,
  * and while the zone sleeps, too: where it wakes in another place, ask mh_window again. mh_lent_peek and mh_lent_poke
@@ -184,18 +195,25 @@ MhErr mh_image(MhZone *zone, uint8_t *bytes, size_t count);
  * the base, the limit and the mode that the zone was made with; its size is how many bytes there are. Loans are
  * returned first; queued answers, and what was asked, aren't kept. The zone is made exactly if the bytes are those of a
  * sound zone of these sizes, byte for byte as docs/DIFFERENCES.md has them ("The zone's bytes"): its header has its
- * end, its free bytes, its first free master pointer, its lowest free block and 64 at 20, and else zeros; its blocks
- * fill it, none is larger than its contents need, and no two free ones are neighbours; a handle's block and its master
- * pointer lead to each other; free master pointers follow one another. Else the answer is MH_DAMAGED. paramErr where
- * count isn't size, for sizes that mh_make_zone_large doesn't take, and where a zone is there; memFullErr where the
- * host has no memory. */
+ * end, its free bytes, its first free master pointer and its lowest free block, and any bytes in the guest's fields,
+ * which are kept; its blocks fill it, none is larger than its contents need, and no two free ones are neighbours; a
+ * handle's block and its master pointer lead to each other; free master pointers follow one another. Else it is
+ * MH_DAMAGED. paramErr where count isn't size, for sizes that mh_make_zone_large doesn't take, and where a zone is
+ * there; memFullErr where the host has no memory. */
 MhErr mh_make_zone_of(MhZone *zone, uint32_t base, uint32_t size, uint32_t limit, uint32_t mode, const uint8_t *bytes,
                       size_t count);
 
-/* The grow-zone procedure. A call that finds no room asks it for bytes. It answers here what was queued before the
- * call, first in, first out; with none left there is no procedure. An answer's calls are carried out in order, those on
- * a block of the running call skipped; then a value that isn't 0 has the call try once more, 16 times at most. Sixteen
- * answers may wait; paramErr for the next, and for a kind that there isn't. */
+/* The grow-zone procedure. Three words:
+ *  - A call asks where it finds no room: it needs so many bytes. No code of C runs then.
+ *  - An answer is what the procedure does about it. It has up to eight calls that release blocks, and a value: 0 says
+ *    that nothing more can be released, and the running call fails; after any other it tries once more. You queue
+ *    answers before the call, and each time that it asks, 16 times at most, it takes the one that has waited longest.
+ *    Where none waits it fails. Sixteen may wait: paramErr for the next, and for a kind that there isn't.
+ *  - Carried out are those of the answer's calls that were made, in their order, each with its own code. Those on a
+ *    block of the running call are skipped.
+ *
+ * A guest's own procedure runs between calls, and nothing is queued for it: the call asks once and is memFullErr.
+ * Then the procedure runs, and the call is made again, as often as the procedure gives a value that isn't 0. */
 enum { MH_NO_CALL = 0, MH_DISPOSE_HANDLE = 1, MH_DISPOSE_PTR = 2, MH_EMPTY_HANDLE = 3 };
 typedef struct MhRelease {
     uint32_t kind; /* MH_NO_CALL, MH_DISPOSE_HANDLE, MH_DISPOSE_PTR or MH_EMPTY_HANDLE */
@@ -207,12 +225,13 @@ typedef struct MhAnswer {
 } MhAnswer;
 MhErr mh_queue_answer(MhZone *zone, const MhAnswer *answer);
 
-/* What the last call asked, from 0 on: mh_asked counts the asks, and mh_ask shows one. Of an ask mh_carried shows the
- * calls of its answer that were carried out, from 0 on. paramErr where there are not so many. Each call of the Memory
- * Manager above, and mh_queue_answer, forgets what was asked before it; the walk doesn't. */
+/* What the zone's last call asked. mh_asked counts how often it did, and mh_ask shows one time, from 0 on: what it
+ * needed, and the answer that it took. mh_carried shows one call of that answer that was carried out, from 0 on.
+ * paramErr where there are not so many. Each call of the Memory Manager above, and mh_queue_answer, forgets what was
+ * asked before it; the walk doesn't. */
 typedef struct MhAsk {
     uint32_t needed;   /* bytes, header included */
-    uint32_t answered; /* 1, or 0 where no answer was left */
+    uint32_t answered; /* 1, or 0 where no answer waited: the two below are 0 then */
     uint32_t value;    /* of the answer */
     uint32_t carried;  /* how many of its calls were carried out */
 } MhAsk;
@@ -238,31 +257,37 @@ MhErr mh_carried(MhZone *zone, uint32_t index, uint32_t place, MhCarried *carrie
  *     mh_sleep(&zone, &asleep, &memory);
  *     ..                                    the guest runs, and reads ram[handle ..]
  *
- * An MhMemory is bytes of the host: it fills one in, with `here` true. While a zone is awake in them it is {NULL, 0,
- * false}: then the bytes are the library's, and the host neither reads nor writes them but by windows, until mh_sleep
- * gives them back. While the zone sleeps the library has no pointer into them, and reads and writes none of them. At
- * each mh_wake they may be in another place. No MhMemory is filled in with bytes that another zone is awake in.
+ * An MhMemory says where these bytes are, and whose. Where `here` is true they are yours: `start` is the first of
+ * `length` bytes. You fill it in so. Where `here` is false `start` is null and `length` 0: a zone is awake in them, and
+ * they are the library's until mh_sleep fills it in again; you neither read nor write them, but by windows. While the
+ * zone sleeps the library has no pointer into them, and reads and writes none of them. At each mh_wake they may be in
+ * another place. No MhMemory is filled in with bytes that another zone is awake in, nor with a null `start`.
  *
  * For any bytes whatever, mh_wake returns, and nothing outside them is touched. Where they have the zone's structure it
  * is awake in them just as they are: with their contents, and in mode 24 with the lock, purge and resource bits that
- * they have in the master pointers of handles with a block. The structure is all else that the zone says of itself: its
- * header, the headers of its blocks, and where master pointers lead. Where one of these bytes isn't as the library left
- * it, or as it was attached, the answer is MH_DAMAGED, and all stays: no byte has changed, and the zone sleeps on. It
- * wakes once the bytes are right again: mh_check says which byte is wrong, and mh_repair writes the structure anew.
+ * they have in the master pointers of handles with a block. The structure is all else that the zone says of itself:
+ * bkLim, hFstFree, zcbFree and allocPtr in its header, the headers of its blocks, and where master pointers lead. Where
+ * one of these bytes isn't as the library left it, or as it was attached, the answer is MH_DAMAGED, and all stays: no
+ * byte has changed, and the zone sleeps on. It wakes once the bytes are right again: mh_check says which byte is wrong,
+ * and mh_repair writes the structure anew.
+ *
+ * The other fields of the header are the guest's: purgePtr (4 bytes from offset 4 on), and gzProc to sparePtr (32 from
+ * 16 on). They are kept as the guest left them, whatever the calls do. In a new zone moreMast is 64, and the rest zero.
+ * No call heeds them: a master block has 64 master pointers whatever moreMast says.
  *
  * A block that is lent stays lent while the zone sleeps: its bytes are C's and the guest's then, and it is lent again
  * when the zone wakes, with the bytes that it has. In mode 24 a guest can clear the lock bit of a lent handle. Then the
  * answer is memLockedErr, and all stays as for MH_DAMAGED: the zone wakes once the bit is set again, by the host or by
  * mh_repair.
  *
- * A zone asleep is a few words in an MhAsleep, and as much memory of the host as an MhZone has. */
+ * A zone asleep is a few words in an MhAsleep, and beside its bytes as much memory of the host as an MhZone has. */
 typedef struct MhAsleep {
     MhZone zone;
 } MhAsleep;
 typedef struct MhMemory {
-    uint8_t *start;
-    size_t length; /* below 2^63 */
-    bool here;
+    uint8_t *start; /* null where the library has the bytes */
+    size_t length;  /* below 2^63 */
+    bool here;      /* whether they are yours */
 } MhMemory;
 
 #define MH_NO_ASLEEP {MH_NO_ZONE}
@@ -275,7 +300,7 @@ MhErr mh_make_zone_at(MhAsleep *asleep, MhMemory *memory, uint32_t base, uint32_
  * this library made in another program. No byte changes. `size` is how large the zone is now, since it may have grown:
  * mh_image_size says it of a zone awake, and so do the first four bytes, which have its end, less base. The zone is
  * made exactly if the bytes are, up to its size, those of a sound zone of these sizes, as for mh_make_zone_of; else the
- * answer is MH_DAMAGED. For any bytes whatever it returns, and nothing outside them is touched. paramErr and memFullErr
+ * code is MH_DAMAGED. For any bytes whatever it returns, and nothing outside them is touched. paramErr and memFullErr
  * as for mh_make_zone_at.
  *
  * A state to be saved has all loans returned, isn't taken while the guest's grow-zone procedure runs, and mh_check
@@ -286,11 +311,11 @@ MhErr mh_attach(MhAsleep *asleep, MhMemory *memory, uint32_t base, uint32_t size
  * aren't as many as its limit. MH_DAMAGED where they haven't the zone's structure, memLockedErr where they have, and a
  * handle that is lent isn't locked. */
 MhErr mh_wake(MhZone *zone, MhAsleep *asleep, MhMemory *memory);
-/* Wakes it as mh_wake does, with the same answers, and compares only what was written: the zone's header, and the
+/* Wakes it as mh_wake does, with the same codes, and compares only what was written: the zone's header, and the
  * headers of blocks and the master pointers of blocks that have a byte in a range. `written` has `count` ranges, each
  * of so many bytes from an offset from the zone's start on. They may overlap and reach beyond the zone, and more bytes
  * may be in them than were written. No ranges at all say that nothing was written. Bytes that were copied to another
- * place as they were count as not written.
+ * place as they were count as not written. The guest's fields of the zone's header may be written without a range.
  *
  * WHO CALLS IT PROMISES THAT SINCE THE ZONE FELL ASLEEP, OR WAS MADE, ATTACHED OR REPAIRED IN ITS SLEEP, NO BYTE WAS
  * WRITTEN BUT IN THESE RANGES: by the guest, by the host, or by a device. WHERE A BYTE WAS WRITTEN ELSEWHERE THE
@@ -314,9 +339,11 @@ typedef struct MhFault {
     uint32_t part;   /* MH_ZONE_HEADER, MH_BLOCK_HEADER or MH_MASTER_POINTER */
 } MhFault;
 MhErr mh_check(MhAsleep *asleep, MhMemory *memory, MhFault *fault);
-/* Writes the structure again, with the flags that handles had when the zone fell asleep or was attached: in mode 24
- * lock bits that the guest has set since are undone. No other byte changes, so contents are as the guest left them, and
- * the zone wakes. paramErr as for mh_check. */
+/* Writes the structure again. In mode 24 the lock, purge and resource bits of a handle with a block stay as they are in
+ * its master pointer where its low three bytes are right; else, and where it is lent, they are those that it had when
+ * the zone fell asleep or was attached. An empty handle's master pointer is 0 again: bits there say nothing. No other
+ * byte changes, so contents, and the guest's fields of the zone's header, are as the guest left them, and the zone
+ * wakes. paramErr as for mh_check. */
 MhErr mh_repair(MhAsleep *asleep, MhMemory *memory);
 /* Ends it, and what is lent is C's no more. The bytes are as they are. (mh_end_zone of a zone that is awake in bytes of
  * the host ends it, too, and these are never given back: put it to sleep first.) */

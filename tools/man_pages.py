@@ -11,6 +11,8 @@ import textwrap
 
 TOP = os.path.dirname(os.path.dirname(os.path.abspath(__file__)))
 HEAD = '.TH MACHEAP {} 2026-11-28 "macheap {}"'
+# a table of more lines than this is left out
+LONG = 50
 VERSION = re.compile(r'#define MACHEAP_VERSION "(.*)"')
 OPTION = re.compile(r'\.arg\(\w+_option\(alloc, "(\w+)", (\w+)\)\)')
 HELP = re.compile(r'let (\w+_help) =\s*"([^"]*)";')
@@ -25,7 +27,7 @@ STATUSES = [
     ("the host refused memory", "the replies so far, and the line `no memory`", "nothing", 1),
     ("reading the script failed, or was interrupted", "nothing", "nothing", 1),
     ("writing failed, was interrupted, or took no byte", "the replies so far, the last perhaps in part", "nothing", 1),
-    ("a file can't be opened or made", "nothing", "which file, why, and what to do", 1),
+    ("a file can't be opened or made, or another program is at work on it", "nothing", "which file, why, and what to do", 1),
     ("the command line has a mistake", "nothing", "a message", 2),
     ("the script has a fault", "the line `script fault at line N`", "what is wrong in that line", 3),
 ]
@@ -117,7 +119,9 @@ def header(path):
             made, said = made + said, comment(item[1])
             continue
         declared = GUARD.sub("", item[2]).strip("\n")
-        if declared:
+        if declared.count("\n") > LONG:
+            said = []
+        elif declared:
             made += [".PP", code(re.sub(r"\n{2,}", "\n", declared)), *said]
             said = []
     return comment(first[1]), made + said
@@ -131,9 +135,9 @@ def head(section):
 
 def library():
     """macheap(3)."""
-    made = [head(3), ".SH NAME", "macheap, resman, macheap_fork \\- the classic Macintosh Memory Manager, Resource Manager and resource forks, for C and C++"]
-    made += [".SH SYNOPSIS", code('#include "macheap.h"\n#include "resman.h"\n#include "macheap_fork.h"'), code("cc emulator.c $(pkg-config --cflags --libs macheap)")]
-    for path, title in [("include/macheap.h", "MEMORY MANAGER"), ("include/resman.h", "RESOURCE MANAGER"), ("include/macheap_fork.h", "RESOURCE FORKS")]:
+    made = [head(3), ".SH NAME", "macheap, resman, macheap_fork, macheap_traps \\- the classic Macintosh Memory Manager, Resource Manager and resource forks, for C and C++"]
+    made += [".SH SYNOPSIS", code('#include "macheap.h"\n#include "resman.h"\n#include "macheap_fork.h"\n#include "macheap_traps.h"'), code("cc emulator.c $(pkg-config --cflags --libs macheap)")]
+    for path, title in [("include/macheap.h", "MEMORY MANAGER"), ("include/resman.h", "RESOURCE MANAGER"), ("include/macheap_fork.h", "RESOURCE FORKS"), ("include/macheap_traps.h", "TRAPS")]:
         said, declared = header(path)
         made += [f".SH {title}", *said[1:], *declared]
     return "\n".join([*made, ".SH SEE ALSO", ".BR macheap (1),", ".BR resfork (1)"]) + "\n"

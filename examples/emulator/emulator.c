@@ -5,6 +5,7 @@
 
 #include "guest.h"
 #include "macheap_fork.h"
+#include "macheap_traps.h"
 #include "resman.h"
 
 #include <inttypes.h>
@@ -13,9 +14,10 @@
 #include <string.h>
 
 /* where things are in the guest's memory */
-enum { RES_ERR = 0xA60, MMU_32_BIT = 0xCB2, CODE = 0x8000, STACK = 0xF0000, ZONE = 0x100000 };
+enum { MMU_32_BIT = 0xCB2, CODE = 0x8000, STACK = 0xF0000, ZONE = 0x100000 };
 
-enum { MOST_ASKS = 16 };
+/* the trap by which the guest's programs show a number */
+enum { SHOW = 0xAFFF };
 
 typedef struct Machine {
     Cpu cpu;
@@ -23,31 +25,26 @@ typedef struct Machine {
     MhMemory bytes;     /* the guest's memory that it is in */
     MrFiles files;
     uint32_t grow_zone; /* the guest's grow-zone procedure, or 0 */
+    bool growing;       /* whether it runs: its own traps don't ask it */
 } Machine;
-
-/* the traps that the guest's programs make */
-enum { NEW_HANDLE = 0xA122, DISPOSE_HANDLE = 0xA023, SET_HANDLE_SIZE = 0xA024, GET_HANDLE_SIZE = 0xA025, H_LOCK = 0xA029,
-       H_UNLOCK = 0xA02A, EMPTY_HANDLE = 0xA02B, H_PURGE = 0xA049, SET_GROW_ZONE = 0xA04B, COMPACT_MEM = 0xA04C,
-       RECOVER_HANDLE = 0xA128, UPDATE_RES_FILE = 0xA999, GET_RESOURCE = 0xA9A0, RELEASE_RESOURCE = 0xA9A3,
-       CHANGED_RESOURCE = 0xA9AA, ADD_RESOURCE = 0xA9AB, SHOW = 0xAFFF };
 
 /* What a call gives: a handle for A0, or a number for D0. */
 typedef struct Given { uint32_t a0, d0; } Given;
 
-/* Makes the call of a trap. Operands are in registers; the high byte of a 24-bit address says nothing. */
-static MhErr call(MhZone *zone, const Cpu *cpu, uint16_t word, Given *given) {
+/* Makes the call of a trap whose operands are in registers; the high byte of a 24-bit address says nothing. */
+static MhErr memory_call(MrFiles *files, MhZone *zone, const Cpu *cpu, const MhTrap *row, Given *given) {
     uint32_t handle = cpu->a[0] & cpu->mask, d0 = cpu->d[0];
-    switch (word) {
-    case NEW_HANDLE: return mh_new_handle(zone, d0, &given->a0);
-    case DISPOSE_HANDLE: return mh_dispose_handle(zone, handle);
-    case SET_HANDLE_SIZE: return mh_set_handle_size(zone, handle, d0);
-    case GET_HANDLE_SIZE: return mh_get_handle_size(zone, handle, &given->d0);
-    case H_LOCK: return mh_hlock(zone, handle);
-    case H_UNLOCK: return mh_hunlock(zone, handle);
-    case EMPTY_HANDLE: return mh_empty_handle(zone, handle);
-    case H_PURGE: return mh_hpurge(zone, handle);
-    case COMPACT_MEM: return mh_compact_mem(zone, d0, &given->d0);
-    case RECOVER_HANDLE: return mh_recover_handle(zone, handle, &given->a0);
+    switch (row->word) {
+    case MH_TRAP_NEW_HANDLE: return mh_new_handle(zone, d0, &given->a0);
+    case MH_TRAP_DISPOSE_HANDLE: return mr_dispose_handle(files, zone, handle); /* it may be a resource's */
+    case MH_TRAP_SET_HANDLE_SIZE: return mh_set_handle_size(zone, handle, d0);
+    case MH_TRAP_GET_HANDLE_SIZE: return mh_get_handle_size(zone, handle, &given->d0);
+    case MH_TRAP_H_LOCK: return mh_hlock(zone, handle);
+    case MH_TRAP_H_UNLOCK: return mh_hunlock(zone, handle);
+    case MH_TRAP_EMPTY_HANDLE: return mh_empty_handle(zone, handle);
+    case MH_TRAP_H_PURGE: return mh_hpurge(zone, handle);
+    case MH_TRAP_COMPACT_MEM: return mh_compact_mem(zone, d0, &given->d0);
+    case MH_TRAP_RECOVER_HANDLE: return mh_recover_handle(zone, handle, &given->a0);
     }
     return MH_PARAM_ERR;
 }
@@ -68,7 +65,9 @@ static uint32_t grow_zone(Machine *machine, uint32_t needed) {
     Cpu before = *cpu;
     m68k_push(cpu, 4, 0);
     m68k_push(cpu, 4, needed);
+    machine->growing = true;
     m68k_call(cpu, machine->grow_zone);
+    machine->growing = false;
     uint32_t released = m68k_pop(cpu, 4);
     const char *fault = cpu->fault;
     *cpu = before;
@@ -76,55 +75,64 @@ static uint32_t grow_zone(Machine *machine, uint32_t needed) {
     return fault ? 0 : released;
 }
 
-/* A trap of the Memory Manager: the zone wakes in the guest's bytes, the call is made, and it sleeps again. A call that finds no
- * room is made once more after the grow-zone procedure released something. */
-static void memory_trap(Cpu *cpu, uint16_t word) {
-    Machine *machine = (Machine *)cpu->host;
-    Given given = {0, 0};
-    MhErr code;
-    for (unsigned asks = 0;; asks++) {
-        MhZone zone = MH_NO_ZONE;
-        if (mh_wake(&zone, &machine->zone, &machine->bytes) != MH_NO_ERR) { cpu->fault = "the zone is damaged"; return; }
-        code = call(&zone, cpu, word, &given);
-        uint32_t needed = code == MH_MEM_FULL_ERR ? bytes_asked(&zone) : 0;
-        mh_sleep(&zone, &machine->zone, &machine->bytes);
-        if (needed == 0 || machine->grow_zone == 0 || asks == MOST_ASKS || grow_zone(machine, needed) == 0) break;
-    }
-    if (word == NEW_HANDLE || word == RECOVER_HANDLE) cpu->a[0] = given.a0;
-    cpu->d[0] = code == MH_NO_ERR ? given.d0 : (uint32_t)(int32_t)code;
-}
-
-/* Makes the call of a trap of the Resource Manager, whose operands a Pascal program pushed one after the other. */
-static MhErr resource_call(MrFiles *files, MhZone *zone, Cpu *cpu, uint16_t word) {
+/* Makes the call of a trap whose operands a Pascal program pushed one after the other. */
+static MhErr resource_call(MrFiles *files, MhZone *zone, Cpu *cpu, const MhTrap *row) {
     uint32_t handle = 0, kind;
     int16_t id;
     MhErr code;
-    switch (word) {
-    case GET_RESOURCE:
+    switch (row->word) {
+    case MH_TRAP_GET_RESOURCE:
         id = (int16_t)m68k_pop(cpu, 2);
         kind = m68k_pop(cpu, 4);
         code = mr_get_resource(files, zone, kind, id, &handle);
         m68k_write(cpu, cpu->a[7], 4, handle); /* where the program left room for the result */
         return code;
-    case ADD_RESOURCE:
+    case MH_TRAP_ADD_RESOURCE:
         m68k_pop(cpu, 4); /* its name: the programs here give none */
         id = (int16_t)m68k_pop(cpu, 2);
         kind = m68k_pop(cpu, 4);
         return mr_add_resource(files, zone, m68k_pop(cpu, 4) & cpu->mask, kind, id, (const uint8_t *)"", 0);
-    case RELEASE_RESOURCE: return mr_release_resource(files, zone, m68k_pop(cpu, 4) & cpu->mask);
-    case CHANGED_RESOURCE: return mr_changed_resource(files, zone, m68k_pop(cpu, 4) & cpu->mask);
-    case UPDATE_RES_FILE: return mr_update_res_file(files, zone, m68k_pop(cpu, 2));
+    case MH_TRAP_RELEASE_RESOURCE: return mr_release_resource(files, zone, m68k_pop(cpu, 4) & cpu->mask);
+    case MH_TRAP_CHANGED_RESOURCE: return mr_changed_resource(files, zone, m68k_pop(cpu, 4) & cpu->mask);
+    case MH_TRAP_UPDATE_RES_FILE: return mr_update_res_file(files, zone, m68k_pop(cpu, 2));
     }
     return MH_PARAM_ERR;
 }
 
-static void resource_trap(Cpu *cpu, uint16_t word) {
-    Machine *machine = (Machine *)cpu->host;
-    MhZone zone = MH_NO_ZONE;
-    if (mh_wake(&zone, &machine->zone, &machine->bytes) != MH_NO_ERR) { cpu->fault = "the zone is damaged"; return; }
-    MhErr code = resource_call(&machine->files, &zone, cpu, word);
-    mh_sleep(&zone, &machine->zone, &machine->bytes);
-    m68k_write(cpu, RES_ERR, 2, (uint32_t)(int32_t)code);
+static MhErr call(Machine *machine, MhZone *zone, const MhTrap *row, Given *given) {
+    if (row->on_stack) return resource_call(&machine->files, zone, &machine->cpu, row);
+    return memory_call(&machine->files, zone, &machine->cpu, row, given);
+}
+
+/* The zone wakes in the guest's bytes, the call is made, and it sleeps again. A call that finds no room is made again until the
+ * grow-zone procedure answers 0: each answer but the last says that it released something. */
+static MhErr made(Machine *machine, const MhTrap *row, Given *given) {
+    Cpu *cpu = &machine->cpu;
+    uint32_t operands = cpu->a[7];
+    for (;;) {
+        MhZone zone = MH_NO_ZONE;
+        if (mh_wake(&zone, &machine->zone, &machine->bytes) != MH_NO_ERR) { cpu->fault = "the zone is damaged"; return MH_DAMAGED; }
+        MhErr code = call(machine, &zone, row, given);
+        uint32_t needed = code == MH_MEM_FULL_ERR ? bytes_asked(&zone) : 0, after = cpu->a[7];
+        mh_sleep(&zone, &machine->zone, &machine->bytes);
+        if (needed == 0 || machine->grow_zone == 0 || machine->growing) return code;
+        cpu->a[7] = operands; /* the procedure leaves them where they are */
+        if (grow_zone(machine, needed) == 0) {
+            cpu->a[7] = after;
+            return code;
+        }
+    }
+}
+
+/* Makes a trap's call, and leaves its code, and its results in registers, where the program looks for them. */
+static void answer(Machine *machine, const MhTrap *row) {
+    Cpu *cpu = &machine->cpu;
+    Given given = {0, 0};
+    MhErr code = made(machine, row, &given);
+    m68k_write(cpu, row->on_stack ? MH_LOW_RES_ERR : MH_LOW_MEM_ERR, 2, (uint32_t)(int32_t)code);
+    if (row->on_stack) return;
+    if (row->results[0].place == MH_A0) cpu->a[0] = given.a0;
+    cpu->d[0] = code == MH_NO_ERR ? given.d0 : (uint32_t)(int32_t)code;
 }
 
 static void show(Cpu *cpu) {
@@ -134,11 +142,11 @@ static void show(Cpu *cpu) {
 
 static void trap(Cpu *cpu, uint16_t word) {
     Machine *machine = (Machine *)cpu->host;
-    switch (word) {
-    case SHOW: show(cpu); break;
-    case SET_GROW_ZONE: machine->grow_zone = cpu->a[0] & cpu->mask; cpu->d[0] = 0; break;
-    default: (word & 0x800 ? resource_trap : memory_trap)(cpu, word);
-    }
+    const MhTrap *row = mh_find_trap(word);
+    if (word == SHOW) show(cpu);
+    else if (!row) cpu->fault = "an unknown trap";
+    else if (row->word == MH_TRAP_SET_GROW_ZONE) { machine->grow_zone = cpu->a[0] & cpu->mask; cpu->d[0] = 0; }
+    else answer(machine, row);
 }
 
 /* Shows the data of the first resource in file 1, as the guest left it. */
@@ -200,6 +208,7 @@ int main(void) {
         all &= run("list", 3, mode, 0x10000);
         all &= run("resources", 4, mode, 0x10000);
         all &= run("overrun", 5, mode, 0x10000);
+        all &= run("patient", 6, mode, 0x10000);
     }
     all &= run("list", 3, 24, 0x800000);
     all &= run("list", 3, 32, 0x2000000);

@@ -6,13 +6,12 @@ use std::process::ExitCode;
 use std::{ptr, slice};
 
 /// Where things are in the guest's memory.
+const MEM_ERR: u32 = 0x220;
 const RES_ERR: u32 = 0xA60;
 const MMU_32_BIT: usize = 0xCB2;
 const CODE: u32 = 0x8000;
 const STACK: u32 = 0xF0000;
 const ZONE: u32 = 0x10_0000;
-
-const MOST_ASKS: u32 = 16;
 
 /// The traps that the guest's programs make.
 const NEW_HANDLE: u16 = 0xA122;
@@ -65,6 +64,8 @@ struct Host {
     files: Files,
     /// The guest's grow-zone procedure, or 0.
     grow_zone: u32,
+    /// Whether it runs: its own traps don't ask it.
+    growing: bool,
 }
 
 impl Cpu {
@@ -91,13 +92,14 @@ fn sign_extended(code: i16) -> u32 {
     i32::from(code) as u32
 }
 
-/// Makes the call of a trap, and returns a handle or a number, or 0. Operands are in registers; the high byte of a 24-bit address says
-/// nothing.
-fn call(zone: &mut Zone, cpu: &Cpu, word: u16) -> Result<u32> {
+/// Makes the call of a trap whose operands are in registers, and returns a handle or a number, or 0. The high byte of a 24-bit address
+/// says nothing.
+fn memory_call(files: &mut Files, zone: &mut Zone, cpu: &Cpu, word: u16) -> Result<u32> {
     let (handle, size) = (cpu.a[0] & cpu.mask, cpu.d[0]);
     match word {
         NEW_HANDLE => zone.new_handle(size),
-        DISPOSE_HANDLE => zone.dispose_handle(handle).map(|()| 0),
+        // it may be a resource's
+        DISPOSE_HANDLE => files.dispose_handle(zone, handle).map(|()| 0),
         SET_HANDLE_SIZE => zone.set_handle_size(handle, size).map(|()| 0),
         GET_HANDLE_SIZE => zone.get_handle_size(handle),
         H_LOCK => zone.hlock(handle).map(|()| 0),
@@ -121,58 +123,33 @@ fn grow_zone(cpu: &mut Cpu, procedure: u32, needed: u32) -> u32 {
     let before = cpu.clone();
     m68k_push(cpu, 4, 0);
     m68k_push(cpu, 4, needed);
+    cpu.host().growing = true;
     m68k_call(cpu, procedure);
+    cpu.host().growing = false;
     let released = m68k_pop(cpu, 4);
     *cpu = Cpu { fault: cpu.fault, ..before };
     if cpu.fault.is_null() { released } else { 0 }
 }
 
-/// A trap of the Memory Manager: the zone wakes in the guest's bytes, the call is made, and it sleeps again. A call that finds no room
-/// is made once more after the grow-zone procedure released something.
-fn memory_trap(cpu: &mut Cpu, word: u16) {
-    let mut asks = 0;
-    let given = loop {
-        let made = cpu.with_zone(|cpu, zone| {
-            let given = call(zone, cpu, word);
-            (given, if given == Err(OsErr(sys::MH_MEM_FULL_ERR)) { bytes_asked(zone) } else { 0 })
-        });
-        let Some((given, needed)) = made else { return };
-        let procedure = cpu.host().grow_zone;
-        if needed == 0 || procedure == 0 || asks == MOST_ASKS || grow_zone(cpu, procedure, needed) == 0 {
-            break given;
-        }
-        asks += 1;
-    };
-    let number = given.map_or_else(|code| sign_extended(code.0), |number| number);
-    if word == NEW_HANDLE || word == RECOVER_HANDLE {
-        cpu.a[0] = given.unwrap_or(0);
-        cpu.d[0] = if given.is_ok() { 0 } else { number };
-    } else {
-        cpu.d[0] = number;
-    }
-}
-
-/// Makes the call of a trap of the Resource Manager, whose operands a Pascal program pushed one after the other.
-fn resource_call(cpu: &mut Cpu, zone: &mut Zone, word: u16) -> Result<()> {
-    // The files aren't those of `with_zone`, which has the zone alone.
-    let files = unsafe { &mut (*cpu.host.cast::<Host>()).files };
+/// Makes the call of a trap whose operands a Pascal program pushed one after the other.
+fn resource_call(files: &mut Files, zone: &mut Zone, cpu: &mut Cpu, word: u16) -> Result<u32> {
     match word {
         GET_RESOURCE => {
             let (id, kind) = (m68k_pop(cpu, 2) as i16, popped_type(cpu));
             let got = files.get_resource(zone, kind, id);
             // where the program left room for the result
             m68k_write(cpu, cpu.a[7], 4, got.unwrap_or(0));
-            got.map(|_| ())
+            got
         }
         ADD_RESOURCE => {
             // its name: the programs here give none
             m68k_pop(cpu, 4);
             let (id, kind) = (m68k_pop(cpu, 2) as i16, popped_type(cpu));
-            files.add_resource(zone, popped_handle(cpu), kind, id, b"")
+            files.add_resource(zone, popped_handle(cpu), kind, id, b"").map(|()| 0)
         }
-        RELEASE_RESOURCE => files.release_resource(zone, popped_handle(cpu)),
-        CHANGED_RESOURCE => files.changed_resource(zone, popped_handle(cpu)),
-        UPDATE_RES_FILE => files.update_res_file(zone, m68k_pop(cpu, 2)),
+        RELEASE_RESOURCE => files.release_resource(zone, popped_handle(cpu)).map(|()| 0),
+        CHANGED_RESOURCE => files.changed_resource(zone, popped_handle(cpu)).map(|()| 0),
+        UPDATE_RES_FILE => files.update_res_file(zone, m68k_pop(cpu, 2)).map(|()| 0),
         _ => Err(OsErr(sys::MH_PARAM_ERR)),
     }
 }
@@ -185,9 +162,48 @@ fn popped_handle(cpu: &mut Cpu) -> u32 {
     m68k_pop(cpu, 4) & cpu.mask
 }
 
-fn resource_trap(cpu: &mut Cpu, word: u16) {
-    if let Some(made) = cpu.with_zone(|cpu, zone| resource_call(cpu, zone, word)) {
-        m68k_write(cpu, RES_ERR, 2, made.map_or_else(|code| sign_extended(code.0), |()| 0));
+/// Whether a trap's operands are on the stack, and not in registers.
+fn is_on_stack(word: u16) -> bool {
+    word & 0x800 != 0
+}
+
+/// The zone wakes in the guest's bytes, the call is made, and it sleeps again. A call that finds no room is made again until the grow-zone
+/// procedure answers 0: each answer but the last says that it released something. None where the zone is damaged.
+fn made(cpu: &mut Cpu, word: u16) -> Option<Result<u32>> {
+    let operands = cpu.a[7];
+    loop {
+        let (given, needed) = cpu.with_zone(|cpu, zone| {
+            // The files aren't those of `with_zone`, which has the zone alone.
+            let files = unsafe { &mut (*cpu.host.cast::<Host>()).files };
+            let given = if is_on_stack(word) { resource_call(files, zone, cpu, word) } else { memory_call(files, zone, cpu, word) };
+            (given, if given == Err(OsErr(sys::MH_MEM_FULL_ERR)) { bytes_asked(zone) } else { 0 })
+        })?;
+        let (procedure, is_growing, after) = (cpu.host().grow_zone, cpu.host().growing, cpu.a[7]);
+        if needed == 0 || procedure == 0 || is_growing {
+            return Some(given);
+        }
+        // the procedure leaves them where they are
+        cpu.a[7] = operands;
+        if grow_zone(cpu, procedure, needed) == 0 {
+            cpu.a[7] = after;
+            return Some(given);
+        }
+    }
+}
+
+/// Makes a trap's call, and leaves its code, and its results in registers, where the program looks for them.
+fn answer(cpu: &mut Cpu, word: u16) {
+    let Some(given) = made(cpu, word) else { return };
+    let code = given.map_or_else(|code| sign_extended(code.0), |_| 0);
+    m68k_write(cpu, if is_on_stack(word) { RES_ERR } else { MEM_ERR }, 2, code);
+    if is_on_stack(word) {
+        return;
+    }
+    if word == NEW_HANDLE || word == RECOVER_HANDLE {
+        cpu.a[0] = given.unwrap_or(0);
+        cpu.d[0] = code;
+    } else {
+        cpu.d[0] = given.unwrap_or(code);
     }
 }
 
@@ -209,8 +225,7 @@ extern "C" fn trap(cpu: &mut Cpu, word: u16) {
             cpu.host().grow_zone = cpu.a[0] & cpu.mask;
             cpu.d[0] = 0;
         }
-        word if word & 0x800 != 0 => resource_trap(cpu, word),
-        word => memory_trap(cpu, word),
+        word => answer(cpu, word),
     }
 }
 
@@ -243,7 +258,7 @@ fn run(name: &str, program: u32, mode: u32, limit: u32) -> Result<()> {
     let mut asleep = Asleep::new(&mut memory[ZONE as usize..], ZONE, limit, mode)?;
     let mut files = Files::new()?;
     files.open(&mut asleep.wake(&mut memory[ZONE as usize..])?, b"")?;
-    let mut host = Host { asleep, files, grow_zone: 0 };
+    let mut host = Host { asleep, files, grow_zone: 0, growing: false };
     let mut cpu = Cpu {
         d: [0; 8],
         a: [0, 0, 0, 0, 0, 0, 0, STACK],
@@ -275,6 +290,7 @@ fn all() -> Result<()> {
         run("list", 3, mode, 0x10000)?;
         run("resources", 4, mode, 0x10000)?;
         run("overrun", 5, mode, 0x10000)?;
+        run("patient", 6, mode, 0x10000)?;
     }
     run("list", 3, 24, 0x80_0000)?;
     run("list", 3, 32, 0x200_0000)

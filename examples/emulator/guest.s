@@ -62,9 +62,11 @@
         .equ    cushion, 0x900
         .equ    calls, 0x904
         .equ    needed, 0x908
+        .equ    next, 0x90C
+        .equ    handles, 0x1000
 
         .text
-        .long   pointers, purged, growing, list, resources, overrun
+        .long   pointers, purged, growing, list, resources, overrun, patient
 
 | Locks and unlocks the handle in A3, as careful programs did: by its master pointer's bit where addresses have 24 bits.
 lock:   tst.b   MMU32Bit
@@ -217,6 +219,51 @@ procedure:
         move.l  #12000,8(%sp)
 1:      move.l  (%sp)+,%a0
         addq.l  #4,%sp                  | a Pascal procedure takes its operands off the stack
+        jmp     (%a0)
+
+| The grow-zone procedure empties a handle of 792 bytes, one a call, until 40000 bytes fit.
+patient:
+        clr.l   calls
+        lea     handles,%a2
+        move.l  %a2,next
+        moveq   #74,%d3
+1:      move.l  #792,%d0
+        NewHandle
+        move.l  %a0,(%a2)+
+        dbra    %d3,1b
+        lea     one_more(%pc),%a0
+        SetGrowZone
+        move.l  #40000,%d0
+        NewHandle
+        move.w  %d0,%d1
+        ext.l   %d1
+        Show    "error"                 | 0
+        move.l  calls,%d1
+        Show    "calls of the procedure" | 44, as about 35000 bytes are wanting, and 800 or 804 come free each time
+        move.l  #40000,%d0
+        NewHandle                       | 31 handles are left, which are too few
+        move.w  %d0,%d1
+        ext.l   %d1
+        Show    "error"                 | -108
+        move.l  calls,%d1
+        Show    "calls of the procedure" | 76: the last one answers 0
+        sub.l   %a0,%a0
+        SetGrowZone
+        rts
+
+| FUNCTION one_more(cbNeeded: Size): LongInt
+one_more:
+        addq.l  #1,calls
+        clr.l   8(%sp)
+        move.l  next,%a1
+        tst.l   (%a1)
+        beq.s   1f
+        move.l  (%a1)+,%a0
+        move.l  %a1,next
+        EmptyHandle
+        move.l  #800,8(%sp)
+1:      move.l  (%sp)+,%a0
+        addq.l  #4,%sp
         jmp     (%a0)
 
 | A list of 500 handles, each with the next one and a number; between them others that are disposed of. All of it moves.

@@ -6,10 +6,11 @@
 # byte of a zone that is damaged, named and mended; bytes from outside the zone, with 40,000 random calls on each of two zones; 175,000
 # random calls, 100,000 of them on a zone that a guest writes, of which macheap prints the same; and 100,000 on resource files; resources
 # by their names, and other names for them; what all open resource files have together, after 4,000 random calls; 20,000 random reads and
-# writes of some of a resource's bytes; 255 resource files at a time; a zone and files that four threads use in turn; a zone that the host
-# has no memory for, over c/heap.c, too; a fork, of which resfork prints the same; and forks whose bytes are known, written anew. Next the
-# examples in C, C++ and Rust (c/check.sh). Then that the library is small, shows the names of its headers and no other, asks for nothing
-# but the C library's memory, and is installed below DESTDIR as in its place; and that the crate in Rust declares what the header does.
+# writes of some of a resource's bytes; 255 resource files at a time; all traps, by their table; a zone and files that four threads use in
+# turn; a zone that the host has no memory for, over c/heap.c, too; a fork, of which resfork prints the same; and forks whose bytes are
+# known, written anew. Next the examples in C, C++ and Rust (c/check.sh). Then that the library is small, shows the names of its headers and
+# no other, asks for nothing but the C library's memory, and is installed below DESTDIR as in its place; that each function has a man page;
+# and that the crate in Rust declares what the header does, and the table of traps what the calls are.
 # Words: the programs macheap and resfork, and the folder of what build_c.sh built. It needs make, a C compiler, Python, and the kit's C
 # code for the heap (RATTLE_KIT: the kit's folder).
 set -e
@@ -73,6 +74,8 @@ built partial -O1 -fsanitize=address,undefined
 "$room/partial"
 built many_files -O1 -fsanitize=address,undefined
 "$room/many_files"
+built traps -O1 -fsanitize=address,undefined
+"$room/traps"
 built threads -O1 -fsanitize=address,undefined -pthread
 "$room/threads"
 built no_memory -O1 -fsanitize=address,undefined -Wl,--wrap=malloc
@@ -89,11 +92,21 @@ built forks -O1 -fsanitize=address,undefined
 "$top/c/check.sh" "$tree"
 
 "$top/tests/checks/declared.py"
-declared=$(grep -oh '\bm[hfr]_[a-z0-9_]*(' "$tree"/include/*.h | tr -d '(' | sort -u)
+"$top/tests/run" traps
+declared=$(cd "$tree/include" && grep -oh '\bm[hfr]_[a-z0-9_]*(' macheap.h macheap_fork.h resman.h | tr -d '(' | sort -u)
 same 'the names of libmacheap.a' "$(nm -g --defined-only "$library" | awk 'NF == 3 { print $3 }' | sort)" "$declared"
 same 'the names of libmacheap.so' "$(nm -D --defined-only "$tree/lib/libmacheap.so" | awk '{ print $3 }' | sort)" "$declared"
 asked=$(nm -u "$library" | awk 'NF == 2 { print $2 }' | sort -u | grep -vxE 'malloc|realloc|free|memcpy|memmove|memset|memcmp|bcmp' || true)
 same 'what libmacheap.a asks for' "$asked" ''
+pages=$(printf '%s\n' "$declared" macheap macheap_fork macheap_traps mh_find_trap resman | sort)
+same 'the man pages' "$(cd "$tree/share/man/man3" && for page in *.3; do echo "${page%.3}"; done | sort)" "$pages"
+for page in $pages; do
+    [ "$page" = macheap ] || same "what the page $page links to" "$(cat "$tree/share/man/man3/$page.3")" '.so man3/macheap.3'
+    grep -qF "$page" "$tree/share/man/man3/macheap.3" || { echo "c.sh: macheap(3) doesn't have $page" && exit 1; }
+done
+if command -v man > /dev/null; then
+    MANROFFOPT=-Tutf8 man -M "$tree/share/man" -P cat mh_wake 2> /dev/null | grep -q 'mh_wake' || { echo 'c.sh: man finds no mh_wake' && exit 1; }
+fi
 size=$(wc -c < "$library")
 [ "$size" -lt 400000 ] || { echo "c.sh: libmacheap.a has $size bytes" && exit 1; }
 made install PREFIX=/usr DESTDIR="$room/below"

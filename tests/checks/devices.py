@@ -4,7 +4,8 @@ The calls are letters: s asks for the file's length, r reads, w writes, c cuts, 
 call that fails isn't made: the line that made it answers ioErr, and no further call is made for it. Where it came before the first write of an
 update the file keeps its bytes and stays open; else the file is closed. The lines after it answer as on a device that works again. With a
 journal the next start, or the next OpenResFile, finds the fork from before the update where the gate wasn't opened yet, and else the new
-one; but after a sync that failed each OpenResFile of that run answers ioErr. Needs a C compiler: `cc`, or $CC.
+one; but after a sync that failed each OpenResFile of that run answers ioErr. The calls and their numbers begin after those by which a start asks which
+file each of them is. Needs a C compiler: `cc`, or $CC.
 """
 import os
 import subprocess
@@ -81,17 +82,22 @@ OPENED_AGAIN = [
 class Played:
     """What a program printed over a file, with a journal or without, or over two files, its calls, and the bytes that it left."""
 
-    def __init__(self, program, shim, folder, fork, lines, journal=None, second=None, **settings):
+    def __init__(self, program, shim, folder, fork, lines, journal=None, second=None, asking=0, **settings):
         path, other, log, beside = (os.path.join(folder, it) for it in ("fork", "second", "log", "journal"))
         words = ["--fork", path] + (["--journal", beside] if journal is not None else []) + (["--fork", other] if second is not None else [])
         for name, data in ((path, fork), (other, second or b""), (log, b""), (beside, journal or b"")):
             with open(name, "wb") as file:
                 file.write(data)
-        environment = {**os.environ, "LD_PRELOAD": shim, "DEVICE_LOG": log, "DEVICE_JOURNAL": beside, **{name: str(it) for name, it in settings.items()}}
+        # a start asks of each file, once it is open, which one it is; `asking` is the number of such a call, which fails
+        asks = "s" + ("S" if journal is not None else "") + ("s" if second is not None else "")
+        numbers = {name: it + len(asks) if it and name in ("DEVICE_FAIL", "DEVICE_SHORT", "DEVICE_CUT") else it for name, it in settings.items()}
+        numbers |= {"DEVICE_FAIL": asking} if asking else {}
+        environment = {**os.environ, "LD_PRELOAD": shim, "DEVICE_LOG": log, "DEVICE_JOURNAL": beside, **{name: str(it) for name, it in numbers.items()}}
         done = subprocess.run([program, *words], input="\n".join(lines), capture_output=True, text=True, env=environment, check=False)
-        self.printed, self.status = done.stdout, done.returncode
+        self.printed, self.said, self.status = done.stdout, done.stderr.replace(folder, "@"), done.returncode
         with open(log, encoding="ascii") as file:
-            self.calls = file.read()
+            calls = file.read()
+        self.calls = calls.removeprefix(asks) if calls.startswith(asks) else f"{calls}, of which the first aren't {asks}"
         with open(path, "rb") as file:
             self.left = file.read()
         with open(beside, "rb") as file:
@@ -108,6 +114,15 @@ class Played:
         if journal is not None and self.journal != journal:
             return f"its journal has {len(self.journal)} bytes, {self.journal[:5]}, which aren't the {len(journal)} that are wanted"
         return None if self.left == left else f"it left {len(self.left)} bytes, which aren't the {len(left)} that are wanted"
+
+
+def asked(play):
+    """A file of which the system doesn't say which one it is isn't opened, and nothing is read or written."""
+    for turn, name in ((1, "fork"), (2, "journal")):
+        played = play(HI, ["CountTypes"], b"", asking=turn)
+        right = (1, "", f"cannot open @/{name}: the system refuses it; name another file\n", HI, b"")
+        found = (played.status, played.printed, played.said, played.left, played.journal)
+        yield f"which one the {name} is", None if found == right else f"it ended so: {found}"
 
 
 def opened(play):
@@ -419,7 +434,7 @@ def main(program):
         def play(fork, lines, journal=None, **settings):
             return Played(program, shim, folder, fork, lines, journal, **settings)
 
-        for rows in (opened, opened_again, in_parts, updated, loaded, quiet, read_only, recovered, journalled, in_rows, told):
+        for rows in (asked, opened, opened_again, in_parts, updated, loaded, quiet, read_only, recovered, journalled, in_rows, told):
             for what, fault in rows(play):
                 count += 1
                 failures += [f"{what}: {fault}"] if fault else []

@@ -2,12 +2,15 @@
 tests/cases/refusals.txt and on the operands of tests/cases/operands.txt.
 
 A row has the bytes of its files, a script whose lines are parted by ` / `, with the program's options before a colon where it has some, the
-lines that are printed, where `..` stands for lines that aren't compared, and the bytes that the files have then.
+lines that are printed, where `..` stands for lines that aren't compared, and the bytes that the files have then. After them come files that
+another program has locked, and files that have several names.
 """
+import fcntl
 import os
 import random
 import subprocess
 import tempfile
+import time
 
 from checks.runs import FAULT, are_wanted, calls_of, lines_of, numbered, read, unescaped
 from model.fork import MOST_BYTES
@@ -562,10 +565,111 @@ def operands(table):
             yield [b""], script.replace("?", unescaped(operand).decode()), printed, None
 
 
+IN_USE = "another program is at work on it; wait for its end, or name another file"
+TWICE = "a word before it names the same file; name another file"
+RAN = (0, "1 CountTypes 1 0\n", "")
+
+
+class Room:
+    """A folder with the fork of HI, another one, an empty journal, and second names of the first."""
+
+    def __init__(self, program, folder):
+        self.program, self.folder = program, folder
+        for name, data in (("fork", HI), ("other", ZERO), ("journal", b"")):
+            with open(self.at(name), "wb") as file:
+                file.write(data)
+        os.link(self.at("fork"), self.at("link"))
+        os.symlink("fork", self.at("symbolic"))
+
+    def at(self, name):
+        return os.path.join(self.folder, name)
+
+    def words(self, names):
+        """The command for these options."""
+        return [self.program] + [self.at(it) if it.isalpha() else it for it in names.split()]
+
+    def run(self, names):
+        """The status, what was printed, and what was said."""
+        done = subprocess.run(self.words(names), input="CountTypes\n", capture_output=True, text=True, check=False)
+        return done.returncode, done.stdout, done.stderr.replace(self.folder, "@")
+
+    def is_locked(self, name):
+        """Whether a program has locked a file."""
+        with open(self.at(name), "rb") as file:
+            try:
+                fcntl.flock(file, fcntl.LOCK_EX | fcntl.LOCK_NB)
+            except BlockingIOError:
+                return True
+        return False
+
+
+def refused(name, why):
+    return 1, "", f"cannot open @/{name}: {why}\n"
+
+
+def locked(room):
+    """A file that another program has locked can't be opened, to be written or to be read, until the lock is given back. Each yields what it is, how it ended, and how it should."""
+    both = "--fork fork --journal journal"
+    for names, name in (("--fork fork", "fork"), (both, "fork"), (both, "journal"), ("--fork other --fork fork", "fork")):
+        for how in (fcntl.LOCK_EX, fcntl.LOCK_SH):
+            for mode in (0o644, 0o444):
+                os.chmod(room.at(name), mode)
+                with open(room.at(name), "rb") as file:
+                    fcntl.flock(file, how)
+                    yield f"{names}, {name} locked", room.run(names), refused(name, IN_USE)
+                    fcntl.flock(file, fcntl.LOCK_UN)
+                    yield f"{names}, {name} given back", room.run(names), RAN
+    with open("/dev/null", "rb") as file:
+        fcntl.flock(file, fcntl.LOCK_EX)
+        yield "a device has no lock", room.run("--fork fork --fork /dev/null"), RAN
+
+
+def locks(room):
+    """A run has its files locked until its end."""
+    names = ["fork", "other", "journal"]
+    with subprocess.Popen(room.words("--fork fork --journal journal"), stdin=subprocess.PIPE, stdout=subprocess.PIPE, stderr=subprocess.PIPE, text=True) as run:
+        end = time.monotonic() + 20
+        while not room.is_locked("journal") and time.monotonic() < end:
+            time.sleep(0.01)
+        yield "locked by a run", [room.is_locked(it) for it in names], [True, False, True]
+        yield "another run over them", room.run("--fork other --journal journal"), refused("journal", IN_USE)
+        said = run.communicate("CountTypes\n")
+        yield "the run", (run.returncode, *said), RAN
+    yield "after its end", [room.is_locked(it) for it in names], [False] * 3
+
+
+def named_twice(room):
+    """A file may have several names where there are no journals, and else one."""
+    for name in ("fork", "link", "symbolic"):
+        yield f"fork and {name}", room.run(f"--fork fork --fork {name}"), RAN
+        yield f"fork, and {name} as its journal", room.run(f"--fork fork --journal {name}"), refused(name, TWICE)
+        yield f"fork and {name} with journals", room.run(f"--fork fork --fork {name} --journal journal --journal new"), refused(name, TWICE)
+        yield f"fork as a journal, and {name}", room.run(f"--journal fork --journal {name} --fork other --fork new"), refused(name, TWICE)
+    yield "no file was written", [read_whole(room.at(it)) for it in ("fork", "other", "journal", "new")], [HI, ZERO, b"", b""]
+
+
+def read_whole(path):
+    with open(path, "rb") as file:
+        return file.read()
+
+
+def names_and_locks(program):
+    """What is wrong with files that are locked, or have several names."""
+    found = []
+    for rows in (locked, locks, named_twice):
+        with tempfile.TemporaryDirectory() as folder:
+            found += [f"{what}: {was}, and not {wanted}" if was != wanted else "" for what, was, wanted in rows(Room(program, folder))]
+    faults = [it for it in found if it]
+    for it in faults:
+        print(it)
+    print(f"files that are locked or have several names: {len(found) - len(faults)} rows as they should be, {len(faults)} not")
+    return len(faults)
+
+
 def main(program):
-    failed = 0
-    refused, written = read("refusals.txt", refusals), read("operands.txt", operands)
-    rows = ROWS + [*chains(), eight(), *kinds(), *large(), large_in_turn(), *large_update()] + refused + written
+    failed, faults = 0, names_and_locks(program)
+    refusing, written = read("refusals.txt", refusals), read("operands.txt", operands)
+    rows = ROWS + [*chains(), eight(), *kinds(), *large(), large_in_turn(), *large_update()] + refusing + written
     with tempfile.TemporaryDirectory() as folder:
         for disks, script, printed, wanted in rows:
             paths = [os.path.join(folder, f"file{index}") for index in range(len(disks))]
@@ -584,5 +688,5 @@ def main(program):
             if not right or wanted not in (None, left):
                 failed += 1
                 print(f"{script}: status {ran.returncode}, {ran.stdout!r}, files of {[len(it) for it in left]} bytes")
-    print(f"scripts over resource files: {len(rows) - failed} as they should be, {failed} not; {len(refused)} are of calls that are refused, {len(written)} of operands")
-    return 1 if failed or not refused or not written else 0
+    print(f"scripts over resource files: {len(rows) - failed} as they should be, {failed} not; {len(refusing)} are of calls that are refused, {len(written)} of operands")
+    return 1 if failed or faults or not refusing or not written else 0

@@ -187,7 +187,7 @@ def limits():
     # 8,192 references, and one more: two bytes say how many there are, and none says where they end
     for count in (8192, 8193):
         yield f"{count} rows", one_map([(b"TEXT", count)], reference * count)
-    # one list of references for each of 65 types, which is too many for the format as well
+    # one list of references for each of 65 types, which are more than the map has room for
     yield "4,259,775 rows", one_list(65, 65535, reference)
     # 1 MB, and a byte more, so often that macheap's limit is reached, and the format's
     for length in (1048572, 1048573):

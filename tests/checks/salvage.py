@@ -15,7 +15,7 @@ import tempfile
 
 from checks.fork_questions import Difference
 from checks.forks import Choices, run
-from model.fork import MESSAGES, NoFork, Row, listing, read_fork
+from model.fork import FORMAT, MESSAGES, NoFork, Row, listing, read_fork
 
 FORKS, CHANGES, SHARE = 3, 300, 0.95
 KINDS = [b"TEXT", b"STR ", b"CODE", b"ICN#", b"snd ", b"PAT#", b"vers", b"DITL"]
@@ -81,7 +81,7 @@ def salvaged(program, path, fork):
         return None
     must(status == 0, f"salvage ended with {status} and told {told!r}")
     with open(out, "rb") as file:
-        return read_fork(file.read())
+        return read_fork(file.read(), FORMAT)
 
 
 def listed(program, path):
@@ -96,7 +96,7 @@ def listed(program, path):
 
 def try_whole(program, path, fork):
     """A fork that isn't damaged is salvaged as it is, and has no fault."""
-    rows = read_fork(fork) if fork else []
+    rows = read_fork(fork, FORMAT) if fork else []
     found = salvaged(program, path, fork)
     must([key(row) for row in found] == [key(row) for row in rows], "salvage changed the rows of a fork that isn't damaged")
     if fork:
@@ -113,7 +113,7 @@ def try_refused(program, path, fork):
     """Where `ls` refuses a fork, its fault is among those that check reports; and the reader's first condition is that of one of them."""
     status, _, told = run(program, ["ls", path])
     try:
-        read_fork(fork)
+        read_fork(fork, FORMAT)
         must(status == 0, f"ls refuses a fork that is read: {told!r}")
         return False
     except NoFork as fault:

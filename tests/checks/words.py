@@ -120,6 +120,7 @@ NO_FORKS = ["--fork @/old", "--fork=@/old --zone 4096"]
 
 # words of which a file can't be opened, which it is and why, and the files that are made: those before it
 IS_FOLDER, NO_FOLDER = "it is a folder; name a file", "there is no such folder; make it first"
+TWICE = "a word before it names the same file; name another file"
 CANNOT_OPEN = [
     ("--fork @/folder", "@/folder", IS_FOLDER, []),
     ("--fork=", "", NO_FOLDER, []),
@@ -129,6 +130,12 @@ CANNOT_OPEN = [
     ("--fork @/new --fork @/folder", "@/folder", IS_FOLDER, ["new"]),
     ("--fork @/new --journal @/missing/new", "@/missing/new", NO_FOLDER, ["new"]),
     ("--fork @/folder --zone 1024 --mode 32", "@/folder", IS_FOLDER, []),
+    # where there are journals, no file may be named twice
+    ("--fork @/new --journal @/new", "@/new", TWICE, ["new"]),
+    ("--fork @/new --journal @/folder/../new", "@/folder/../new", TWICE, ["new"]),
+    ("--fork @/a --fork @/b --journal @/j --journal @/j", "@/j", TWICE, ["a", "b", "j"]),
+    ("--fork @/a --fork @/a --journal @/j --journal @/k", "@/a", TWICE, ["a"]),
+    ("--journal @/k --journal @/a --fork @/a --fork @/b", "@/a", TWICE, ["a", "b", "k"]),
     # names in this folder are longer than the system takes
     (f"--fork @/{'n' * 300}", f"@/{'n' * 300}", "the system refuses it; name another file", []),
 ]

@@ -1,14 +1,17 @@
 /* Comes between a program and the C library's calls that replace a file. It adds a letter for each to the file REPLACE_LOG: o for an open, c for one
-   that makes a file, l for flock, w for a write to a file, m for fchmod, y for fsync of a file and Y of a folder, n for rename, and u for unlink; r for a
-   read, p for a write and t for a cut in a file's place. A rename to the name REPLACE_BUSY fails with EBUSY, as where something is mounted. The call of the number in REPLACE_FAIL, from 1 on, isn't made and fails with the error REPLACE_ERROR, or EIO; so do all from the number in REPLACE_FROM on. The
-   process ends before the call of the number in REPLACE_END. The write of the number in REPLACE_PART is made for half of its bytes. Writes to
-   files take REPLACE_ROOM bytes in all, and then ENOSPC. To be loaded ahead of the C library, with LD_PRELOAD. */
+   that makes a file, l for flock, w for a write to a file, h for fchown, m for fchmod, y for fsync of a file and Y of a folder, n for rename, and u
+   for unlink. A rename to the name REPLACE_BUSY fails with EBUSY, as where something is mounted. The call of the number in REPLACE_FAIL, from 1 on,
+   isn't made and fails with the error REPLACE_ERROR, or EIO; so do all from the number in REPLACE_FROM on. The process ends before the call of the
+   number in REPLACE_END. Before the call of the number in REPLACE_SWAP another program comes: it renames REPLACE_SWAP_BY to REPLACE_SWAP_TO. The
+   write of the number in REPLACE_PART is made for half of its bytes. Writes to files take REPLACE_ROOM bytes in all, and then ENOSPC. To be loaded
+   ahead of the C library, with LD_PRELOAD. */
 #define _GNU_SOURCE
 #include <dlfcn.h>
 #include <errno.h>
 #include <fcntl.h>
 #include <signal.h>
 #include <stdarg.h>
+#include <stdio.h>
 #include <stdlib.h>
 #include <string.h>
 #include <sys/stat.h>
@@ -39,6 +42,8 @@ static int fails(char letter)
     calls++;
     if (calls == number_of("REPLACE_END", 0))
         kill(getpid(), SIGKILL);
+    if (calls == number_of("REPLACE_SWAP", 0) && NEXT(rename)(getenv("REPLACE_SWAP_BY"), getenv("REPLACE_SWAP_TO")) != 0)
+        abort();
     long from = number_of("REPLACE_FROM", 0);
     if (calls != number_of("REPLACE_FAIL", 0) && (from == 0 || calls < from))
         return 0;
@@ -101,22 +106,9 @@ ssize_t write(int file, const void *bytes, size_t count)
     return most < 0 ? -1 : NEXT(write)(file, bytes, (size_t)most);
 }
 
-ssize_t pwrite(int file, const void *bytes, size_t count, off_t at)
+int fchown(int file, uid_t user, gid_t group)
 {
-    if (fails('p'))
-        return -1;
-    ssize_t most = taken(count);
-    return most < 0 ? -1 : NEXT(pwrite)(file, bytes, (size_t)most, at);
-}
-
-ssize_t pread(int file, void *buffer, size_t count, off_t at)
-{
-    return fails('r') ? -1 : NEXT(pread)(file, buffer, count, at);
-}
-
-int ftruncate(int file, off_t length)
-{
-    return fails('t') ? -1 : NEXT(ftruncate)(file, length);
+    return fails('h') ? -1 : NEXT(fchown)(file, user, group);
 }
 
 int fchmod(int file, mode_t mode)

@@ -7,9 +7,10 @@ import struct
 
 MOST_BYTES = 4194304
 MOST_ROWS = 8192
-# the most bytes of a fork, the most rows, and the most bytes of all rows: for macheap, and for resfork, which reads what the format can say
-MACHEAP = (MOST_BYTES, MOST_ROWS, MOST_BYTES)
-FORMAT = (4294967295, 4194304, 16777216)
+# the most bytes of a fork, the most rows, the most bytes of all rows, and how many bytes of the map there must be for each row: for macheap,
+# and for resfork, which reads what the format can say
+MACHEAP = (MOST_BYTES, MOST_ROWS, MOST_BYTES, 0)
+FORMAT = (4294967295, 4194304, 16777216, 12)
 WORDS = [(128, "bit7"), (64, "sysHeap"), (32, "purgeable"), (16, "locked"), (8, "protected"), (4, "preload"), (2, "changed"), (1, "bit0")]
 
 # the conditions in the order in which they are looked at, in words
@@ -32,7 +33,7 @@ MESSAGES = {
     "parts": PART.format("data|map", "fork") + "|" + PART.format("header of the map", "map") + r"|the fork has \d+ bytes, and at most 4294967295 are read",
     "types": PART.format("count of types|type list", "map") + r"|'.*' is twice in the type list\n  at \$[0-9A-F]{6,}, first at \$[0-9A-F]{6,}",
     "references": r"'.*': the list of its references has \d+ bytes, and \d+ bytes are left in the map\n  at \$[0-9A-F]{6,}",
-    "rows": r"there are \d+ resources, and at most 4194304 are read",
+    "rows": r"there are \d+ resources in a map of \d+ bytes, and at most \d+ are read",
     "names": ROW.format("its name with its byte of length has", "map"),
     "places": ROW.format("(?:the bytes of its length are|its length is)", "data"),
     "bytes": ROW.format("the bytes of the resources up to it are", "16777216 that are read"),
@@ -61,7 +62,7 @@ def must(holds, condition):
 
 def read_fork(fork, limits=MACHEAP):
     """The rows that the bytes stand for, within these limits."""
-    most_bytes, most_rows, most_together = limits
+    most_bytes, most_rows, most_together, map_each = limits
     must(len(fork) >= 16, "end")
     data_at, map_at, data_length, map_length = struct.unpack(">4I", fork[:16])
     must(len(fork) <= most_bytes and data_at + data_length <= len(fork) and map_at + map_length <= len(fork) and map_length >= 28, "parts")
@@ -74,7 +75,8 @@ def read_fork(fork, limits=MACHEAP):
     must(len({kind for kind, _, _ in entries}) == types, "types")
     lists = [(kind, (less_one + 1) % 65536, types_at + offset) for kind, less_one, offset in entries]
     must(all(count == 0 or start + 12 * count <= map_length for _, count, start in lists), "references")
-    must(sum(count for _, count, _ in lists) <= most_rows, "rows")
+    total = sum(count for _, count, _ in lists)
+    must(total <= most_rows and map_each * total <= map_length, "rows")
     references = [(kind, start + 12 * it) for kind, count, start in lists for it in range(count)]
     rows = []
     for kind, at in references:

@@ -154,7 +154,8 @@ impl Asleep {
         }
     }
 
-    /// Writes the zone's structure into these bytes again. No other of them changes.
+    /// Writes the zone's structure into these bytes again, but for flags in master pointers that lead where they should. No other of them
+    /// changes.
     pub fn repair(&mut self, bytes: &mut [u8]) -> Result<()> {
         told(unsafe { sys::mh_repair(&mut self.0, &mut handed_over(bytes)) })
     }

@@ -1,21 +1,23 @@
 -- How what a crash may leave goes on from call to call.
 use Rattle.std.proofs.Common.{◌≡◌, ◌⊎◌, inl, inr, ℕ, Bool, true, false, not, if◌then◌else◌, List, [], ◌∷◌, ◌++◌, Option, Some, None, Result, Ok, Err, refl, sym, ◌∙◌, ap, subst}
-use Rattle.std.specs.Prelude.{IsTrue, OnOk, IfErr, MatchResult, is_ok}
+use Rattle.std.specs.Prelude.{IfErr, is_ok}
 use Rattle.fork_disk.specs.Crash.{AlwaysFinds, Finds, at_first, and_then}
 use Rattle.file_replace.specs.declared.calls.Call.TheVariants as calls
 use Rattle.file_replace.specs.declared.place.PlainFile.{PlainFile}
+use Rattle.file_replace.specs.declared.place.Event.{Event}
 use Rattle.file_replace.specs.declared.place.Event.TheVariants.{Made, Changed, Synced, Failed, Renamed, Tried, Asked}
 use Rattle.file_replace.specs.declared.place.FolderSync.{FolderSync}
 use Rattle.file_replace.specs.declared.place.FolderSync.TheVariants.{Done, NotOffered}
+use Rattle.file_replace.specs.declared.replacement.Fault.{Fault}
 use Rattle.file_replace.specs.declared.replacement.Step.{Step}
-use Rattle.file_replace.specs.declared.replacement.Step.TheVariants.{Rename}
+use Rattle.file_replace.specs.declared.replacement.Step.TheVariants.{Create, Write, SetOwner, SetMode, Sync, Check, Rename, SyncFolder}
 use Rattle.file_replace.specs.declared.replacement.Stopped.{Stopped}
-use Rattle.file_replace.specs.Place.{Answered, Folder, History, MayBe, MayLeave, MaySettle, has_failed}
+use Rattle.file_replace.specs.declared.rights.Owner.{Owner}
+use Rattle.file_replace.specs.declared.rights.Rights.{Rights}
+use Rattle.file_replace.specs.Place.{Answered, Folder, History, MayBe, MayLeave, MaySettle, Seen, has_failed}
 use Rattle.file_replace.specs.OnPlace.{Fits, answered, happened, moved, synced}
-use Rattle.file_replace.specs.Replacing.{HasAfter, IsEarly, IsNew, IsOldOrNew, is_beside, with_removal}
-
-abbrev pub Left : Type 0
-Left = Option PlainFile
+use Rattle.file_replace.specs.Replacing.{BelongsTo, Dresses, Fills, Moves, HasAfter, Is, IsNew, IsOldOr, IsReady, Left, Prepares, Puts, ReplacesFile, Spares, after_check, asked_owner, before_step, failed_call, is_beside, is_early, prepared_calls, with_removal}
+use Rattle.file_replace.specs.Rights.{mode_of}
 
 module _ (P : Left → Type 0) where
   -- a crash now leaves what has P
@@ -26,162 +28,220 @@ module _ (P : Left → Type 0) where
   pub same_end : (old mid new : History) → AlwaysFinds MayLeave P old mid → new ≡ mid → AlwaysFinds MayLeave P old new
   same_end old mid new so_far same = subst (λ (h : History). AlwaysFinds MayLeave P old h) (sym same) so_far
 
-  -- the file beside was changed, or synced, or a sync of it failed: the path is as it was
-  pub along_changed : (old mid new : History) → AlwaysFinds MayLeave P old mid → new ≡ Changed ∷ mid → AlwaysFinds MayLeave P old new
-  along_changed old mid new so_far is = same_end old (Changed ∷ mid) new (and_then so_far (leaves_now old mid so_far)) is
-
-  pub along_failed : (old mid new : History) → AlwaysFinds MayLeave P old mid → new ≡ Failed ∷ mid → AlwaysFinds MayLeave P old new
-  along_failed old mid new so_far is = same_end old (Failed ∷ mid) new (and_then so_far (leaves_now old mid so_far)) is
-
-  pub along_synced : (file : PlainFile) (old mid new : History) → AlwaysFinds MayLeave P old mid → new ≡ Synced file ∷ mid → AlwaysFinds MayLeave P old new
-  along_synced file old mid new so_far is = same_end old (Synced file ∷ mid) new (and_then so_far (leaves_now old mid so_far)) is
-
--- what a crash might have left before is one of what it may leave now
-pub or_new : (mode : Option ℕ) (bytes : List ℕ) (start old new : History) → AlwaysFinds MayLeave (MayLeave start) old new → AlwaysFinds MayLeave (IsOldOrNew start mode bytes) old new
-or_new mode bytes start old new (at_first here) = at_first (λ left may. inl (here left may))
-or_new mode bytes start old new (and_then {event} {past} so_far here) = and_then (or_new mode bytes start old past so_far) (λ left may. inl (here left may))
-
-pub still_trusted : (old new : History) → new ≡ Changed ∷ old → has_failed old ≡ false → has_failed new ≡ false
-still_trusted old new is trusted = ap has_failed is ∙ trusted
-
--- the file that was synced takes the path
-module _ (mode : Option ℕ) (bytes : List ℕ) (file : PlainFile) (start mid now : History) (trusted : has_failed mid ≡ false) (synced : now ≡ Synced file ∷ mid)
-    (is_new : IsNew mode bytes (Some file)) (so_far : AlwaysFinds MayLeave (MayLeave start) start now) where
-  comes : (left : Left) → ((f : PlainFile) × MayBe now f × (left ≡ Some f)) → IsNew mode bytes left
-  comes left made =
-      let may : MayBe (Synced file ∷ mid) made.0 = subst (λ (h : History). MayBe h made.0) synced made.1 in
-      subst (IsNew mode bytes) (sym (made.2 ∙ ap Some (may trusted))) is_new
-
-  pub along_renamed : (new : History) → new ≡ Renamed ∷ now → AlwaysFinds MayLeave (IsOldOrNew start mode bytes) start new
-  along_renamed new is = subst (λ (h : History). AlwaysFinds MayLeave (IsOldOrNew start mode bytes) start h) (sym is)
-      (and_then (or_new mode bytes start start now so_far) (λ left may. either left may))
-    where
-      either : (left : Left) → MayLeave (Renamed ∷ now) left → IsOldOrNew start mode bytes left
-      either left (inl old) = inl (leaves_now (MayLeave start) start now so_far left old)
-      either left (inr made) = inr (comes left made)
-
-  pub along_tried : (new : History) → new ≡ Tried ∷ now → AlwaysFinds MayLeave (IsOldOrNew start mode bytes) start new
-  along_tried new is = subst (λ (h : History). AlwaysFinds MayLeave (IsOldOrNew start mode bytes) start h) (sym is)
-      (and_then (or_new mode bytes start start now so_far) (λ left may. either left may))
-    where
-      either : (left : Left) → MayLeave (Tried ∷ now) left → IsOldOrNew start mode bytes left
-      either left (inl old) = inl (leaves_now (MayLeave start) start now so_far left old)
-      either left (inr made) = inr (comes left made)
-
-  pub settles : (new : History) → new ≡ Renamed ∷ now → Finds MaySettle (IsNew mode bytes) new
-  settles new is left may = comes left (subst (λ (h : History). MaySettle h left) is may)
-
-  -- whether it was done or not
-  pub along_rename : (ok : Bool) (here : Folder) (new : History) → new ≡ happened calls.Rename ok here now → AlwaysFinds MayLeave (IsOldOrNew start mode bytes) start new
-  along_rename true here new is = along_renamed new is
-  along_rename false here new is = along_tried new is
-
 -- two stretches in a row, the second by what might be left after the first
 pub along_then : (P : Left → Type 0) (old mid new : History) → AlwaysFinds MayLeave P old mid → AlwaysFinds MayLeave P mid new → AlwaysFinds MayLeave P old new
 along_then P old mid new first (at_first here) = first
 along_then P old mid new first (and_then {event} {past} so_far here) = and_then (along_then P old mid past first so_far) here
 
-weaker : (P Q : Left → Type 0) (old new : History) → ((left : Left) → P left → Q left) → AlwaysFinds MayLeave P old new → AlwaysFinds MayLeave Q old new
+pub weaker : (P Q : Left → Type 0) (old new : History) → ((left : Left) → P left → Q left) → AlwaysFinds MayLeave P old new → AlwaysFinds MayLeave Q old new
 weaker P Q old new gives (at_first here) = at_first (λ left may. gives left (here left may))
 weaker P Q old new gives (and_then {event} {past} so_far here) = and_then (weaker P Q old past gives so_far) (λ left may. gives left (here left may))
 
--- an empty file was made, and then the rest came
-pub after_made : (mode : Option ℕ) (bytes : List ℕ) (start made new : History) → made ≡ Made ∷ start → AlwaysFinds MayLeave (IsOldOrNew made mode bytes) made new
-    → AlwaysFinds MayLeave (IsOldOrNew start mode bytes) start new
-after_made mode bytes start made new is later =
-    along_then (IsOldOrNew start mode bytes) start made new
-    (same_end (IsOldOrNew start mode bytes) start (Made ∷ start) made (and_then (at_first (λ left may. inl may)) (λ left may. inl may)) is)
-    (weaker (IsOldOrNew made mode bytes) (IsOldOrNew start mode bytes) made new older later)
-  where
-    older : (left : Left) → IsOldOrNew made mode bytes left → IsOldOrNew start mode bytes left
-    older left (inl may) = inl (subst (λ (h : History). MayLeave h left) is may)
-    older left (inr new) = inr new
+-- nothing that was done so far is seen in the path
+pub stays : (place : Seen) → Spares place place
+stays place = record { path = refl; any_moment = at_first (λ left may. may) }
 
--- the folder was to be synced
-pub along_asked : (mode : Option ℕ) (bytes : List ℕ) (start mid new : History) (answer : FolderSync) → AlwaysFinds MayLeave (IsOldOrNew start mode bytes) start mid → Finds MaySettle (IsNew mode bytes) mid
-    → new ≡ Asked answer ∷ mid → AlwaysFinds MayLeave (IsOldOrNew start mode bytes) start new
-along_asked mode bytes start mid new Done so_far settles is = same_end (IsOldOrNew start mode bytes) start (Asked Done ∷ mid) new (and_then so_far (λ left may. inr (settles left may))) is
-along_asked mode bytes start mid new NotOffered so_far settles is =
-    same_end (IsOldOrNew start mode bytes) start (Asked NotOffered ∷ mid) new (and_then so_far (leaves_now (IsOldOrNew start mode bytes) start mid so_far)) is
+-- An event that changes nothing at the path: it was spared by one call, and then by another.
+module _ (event : Event) (quiet : (past : History) (left : Left) → MayLeave (event ∷ past) left → MayLeave past left) where
+  pub spares_event : (old new : Seen) → new.files.path ≡ old.files.path → new.history ≡ event ∷ old.history → Spares old new
+  spares_event old new path is = record {
+    path = path;
+    any_moment = same_end (MayLeave old.history) old.history (event ∷ old.history) new.history (and_then (at_first (λ left may. may)) (quiet old.history)) is;
+  }
 
-pub stable : (mode : Option ℕ) (bytes : List ℕ) (mid new : History) (answer : FolderSync) → Finds MaySettle (IsNew mode bytes) mid → new ≡ Asked answer ∷ mid → answer ≡ Done → Finds MayLeave (IsNew mode bytes) new
-stable mode bytes mid new answer settles is done left may =
-    let now : MayLeave (Asked Done ∷ mid) left = subst (λ (a : FolderSync). MayLeave (Asked a ∷ mid) left) done (subst (λ (h : History). MayLeave h left) is may) in settles left now
+pub spares_changed : (old new : Seen) → new.files.path ≡ old.files.path → new.history ≡ Changed ∷ old.history → Spares old new
+spares_changed = spares_event Changed (λ past left may. may)
 
--- how a step passes on the answer of its call
-abbrev pub IsStep : {T E : Type 0} → Step → Result T E → Result T (Stopped E) → Type 0
-IsStep step answer result = MatchResult result (λ value. answer ≡ Ok value) (λ stopped. (answer ≡ Err stopped.error) × (stopped.step ≡ step))
+pub spares_failed : (old new : Seen) → new.files.path ≡ old.files.path → new.history ≡ Failed ∷ old.history → Spares old new
+spares_failed = spares_event Failed (λ past left may. may)
 
--- a step by another name
-pub step_is : (Y : Step → Type 0) (step told : Step) → told ≡ step → Y step → Y told
-step_is Y step told is has = subst Y (sym is) has
+pub spares_synced : (file : PlainFile) (old new : Seen) → new.files.path ≡ old.files.path → new.history ≡ Synced file ∷ old.history → Spares old new
+spares_synced file = spares_event (Synced file) (λ past left may. may)
 
-pub early_passes : {T E : Type 0} (step : Step) (answer : Result T E) (result : Result T (Stopped E)) → IsEarly step → IsStep step answer result → IfErr result (λ stopped. IsEarly stopped.step)
-early_passes step answer (Ok value) early is = tt
-early_passes step answer (Err stopped) early is = step_is IsEarly step stopped.step is.1 early
+pub spares_made : (old new : Seen) → new.files.path ≡ old.files.path → new.history ≡ Made ∷ old.history → Spares old new
+spares_made = spares_event Made (λ past left may. may)
 
--- a call was done
-done : {T E : Type 0} (answer : Result T E) (value : T) → answer ≡ Ok value → IsTrue (is_ok answer)
-done {T} {E} answer value is = subst (λ (r : Result T E). IsTrue (is_ok r)) (sym is) refl
+-- nothing happened
+pub spares_same : (old new : Seen) → new.files.path ≡ old.files.path → new.history ≡ old.history → Spares old new
+spares_same old new path is = record { path = path; any_moment = same_end (MayLeave old.history) old.history old.history new.history (at_first (λ left may. may)) is }
+
+-- one stretch after another
+pub spares_then : (old mid new : Seen) → Spares old mid → Spares mid new → Spares old new
+spares_then old mid new first second = record {
+  path = second.path ∙ first.path;
+  any_moment = along_then (MayLeave old.history) old.history mid.history new.history first.any_moment
+      (weaker (MayLeave mid.history) (MayLeave old.history) mid.history new.history (leaves_now (MayLeave old.history) old.history mid.history first.any_moment) second.any_moment);
+}
+
+-- no sync has failed by a change
+pub trusted_changed : (old new : Seen) → new.history ≡ Changed ∷ old.history → has_failed old.history ≡ false → has_failed new.history ≡ false
+trusted_changed old new is trusted = ap has_failed is ∙ trusted
 
 -- the empty file is filled
-pub written : {T E : Type 0} (bytes : List ℕ) (old new : Folder) (answer : Result T E) (value : T) → answer ≡ Ok value → ((file : PlainFile) × (old.beside ≡ Some file) × (file.bytes ≡ []))
-    → Fits calls.Write (is_ok answer) bytes old new → IsNew None bytes new.beside
-written bytes old new answer value is empty fits =
-    (record empty.0 { bytes = empty.0.bytes ++ bytes }, fits.1 (done answer value is) empty.0 empty.1, ap (λ (l : List ℕ). l ++ bytes) empty.2, tt)
+pub written : (bytes : List ℕ) (old new : Folder) → ((file : PlainFile) × (old.beside ≡ Some file) × (file.bytes ≡ [])) → Fits calls.Write true bytes old new → IsNew None bytes new.beside
+written bytes old new empty fits = (record empty.0 { bytes = empty.0.bytes ++ bytes }, fits.1 refl empty.0 empty.1, ap (λ (l : List ℕ). l ++ bytes) empty.2, tt)
 
--- and gets its mode
-pub given : {T E : Type 0} (step : Step) (mode : ℕ) (bytes : List ℕ) (old new : Folder) (answer : Result T E) (result : Result T (Stopped E)) → IsStep step answer result → IsNew None bytes old.beside
-    → Fits (calls.SetMode mode) (is_ok answer) [] old new → OnOk result (IsNew (Some mode) bytes new.beside)
-given step mode bytes old new answer (Err stopped) told is fits = tt
-given step mode bytes old new answer (Ok value) told is fits = (record is.0 { mode = mode }, fits.1 (done answer value told) is.0 is.1, is.2, refl)
+-- it gets an owner, and the mode that goes with that
+pub dressed : (bytes : List ℕ) (rights : Rights) (now : Owner) (mode : ℕ) (old mid new : Folder) → mode ≡ mode_of rights now → Fits (calls.SetOwner rights.owner now) true [] old mid → Fits (calls.SetMode mode) true [] mid new
+    → IsNew None bytes old.beside → IsNew (Some rights) bytes new.beside × BelongsTo now new.beside
+dressed bytes rights now mode old mid new fit owns fits had =
+    let given = owns.1 refl had.0 had.1 in
+    let file = record given.0 { mode = mode } in
+    let beside = fits.1 refl given.0 given.1 in
+    ((file, beside, given.2 ∙ had.2, fit ∙ ap (mode_of rights) (sym given.3)), (file, beside, given.3))
 
--- what a sync did
-pub synced_is : {T E : Type 0} (here : Folder) (old new : History) (answer : Result T E) (value : T) → answer ≡ Ok value → new ≡ happened calls.Sync (is_ok answer) here old
-    → (file : PlainFile) → here.beside ≡ Some file → new ≡ Synced file ∷ old
-synced_is {T} {E} here old new answer value is was file beside =
-    was ∙ ap (λ (r : Result T E). happened calls.Sync (is_ok r) here old) is ∙ ap (λ (b : Left). synced b old) beside
+-- nothing was to be given
+pub undressed : {E : Type 0} (place : Seen) → Dresses {E = E} None (Ok None) place place
+undressed place = record { spares = stays place; trusted = λ was. was; made = λ bytes is. is; owned = λ bytes is. tt }
 
-pub failed_is : {T E : Type 0} (here : Folder) (old new : History) (answer : Result T E) (error : E) → answer ≡ Err error → new ≡ happened calls.Sync (is_ok answer) here old → new ≡ Failed ∷ old
-failed_is {T} {E} here old new answer error is was = was ∙ ap (λ (r : Result T E). happened calls.Sync (is_ok r) here old) is
+-- it failed on the way
+pub half_dressed : {E : Type 0} (rights : Option Rights) (stopped : Stopped E) (old new : Seen) → Spares old new → (has_failed old.history ≡ false → has_failed new.history ≡ false) → Dresses rights (Err stopped) old new
+half_dressed rights stopped old new spares trusted = record { spares = spares; trusted = trusted; made = λ bytes is. tt; owned = λ bytes is. tt }
 
--- the file beside goes to the path
-module _ {T E : Type 0} (mode : Option ℕ) (bytes : List ℕ) (now new : Folder) (beside : IsNew mode bytes now.beside) (step : Step) (answer : Result T E) where
-  come : new ≡ moved now → IsNew mode bytes new.path
-  come moves = subst (λ (f : Folder). IsNew mode bytes f.path) (sym moves) beside
+pub half_filled : {E : Type 0} (rights : Option Rights) (bytes : List ℕ) (stopped : Stopped E) (old new : Seen) → Spares old new → Fills rights bytes (Err stopped) old new
+half_filled rights bytes stopped old new spares = record { spares = spares; made = tt; owned = tt; ready = tt }
 
-  pub comes_to : (result : Result T (Stopped E)) → IsStep step answer result → Fits calls.Rename (is_ok answer) [] now new → OnOk result (IsNew mode bytes new.path)
-  comes_to (Err stopped) told fits = tt
-  comes_to (Ok value) told fits = come (subst (λ (r : Result T E). Fits calls.Rename (is_ok r) [] now new) told fits)
+-- a sync of the file beside
+pub synced_is : (here : Folder) (old new : History) → new ≡ happened calls.Sync true here old → (file : PlainFile) → here.beside ≡ Some file → new ≡ Synced file ∷ old
+synced_is here old new was file beside = was ∙ ap (λ (b : Left). synced b old) beside
 
-  pub goes : (result : Result T (Stopped E)) → IsStep step answer result → Fits calls.Rename (is_ok answer) [] now new → OnOk result (new.beside ≡ None)
-  goes (Err stopped) told fits = tt
-  goes (Ok value) told fits = ap (λ (f : Folder). f.beside) (subst (λ (r : Result T E). Fits calls.Rename (is_ok r) [] now new) told fits)
+-- a file that was synced stays
+pub ready : (file : PlainFile) (past : History) (place : Seen) → place.files.beside ≡ Some file → place.history ≡ Synced file ∷ past → has_failed past ≡ false → IsReady place
+ready file past place beside is trusted left may =
+    let synced : MayBe (Synced file ∷ past) left = subst (λ (h : History). MayBe h left) is may in beside ∙ ap Some (sym (synced trusted))
 
-  either : (old : Left) → now.path ≡ old → (new ≡ moved now) ⊎ (new ≡ now) → HasAfter Rename mode bytes old new.path
-  either old same (inl moves) = inr (come moves)
-  either old same (inr stays) = inl (ap (λ (f : Folder). f.path) stays ∙ same)
+-- what is made of the file beside is that file
+pub comes : (place : Seen) → IsReady place → (left : Left) → ((file : PlainFile) × MayBe place.history file × (left ≡ Some file)) → Is place.files.beside left
+comes place ready left made = made.2 ∙ sym (ready made.0 made.1)
 
-  pub stays_or_comes : (old : Left) (result : Result T (Stopped E)) → step ≡ Rename → IsStep step answer result → now.path ≡ old → Fits calls.Rename (is_ok answer) [] now new
-      → IfErr result (λ stopped. HasAfter stopped.step mode bytes old new.path)
-  stays_or_comes old (Ok value) is told same fits = tt
-  stays_or_comes old (Err stopped) is told same fits =
-      step_is (λ (s : Step). HasAfter s mode bytes old new.path) Rename stopped.step (told.1 ∙ is) (either old same (subst (λ (r : Result T E). Fits calls.Rename (is_ok r) [] now new) told.0 fits))
+module _ (place : Seen) (ready : IsReady place) where
+  of_made : (left : Left) → MayLeave place.history left ⊎ ((file : PlainFile) × MayBe place.history file × (left ≡ Some file)) → IsOldOr place.history (Is place.files.beside) left
+  of_made left (inl old) = inl old
+  of_made left (inr made) = inr (comes place ready left made)
 
-pub settles_at : {T E : Type 0} (step : Step) (mode : Option ℕ) (bytes : List ℕ) (file : PlainFile) (start mid now new : History) → has_failed mid ≡ false → now ≡ Synced file ∷ mid → IsNew mode bytes (Some file)
-    → AlwaysFinds MayLeave (MayLeave start) start now → (here : Folder) (answer : Result T E) (result : Result T (Stopped E)) → IsStep step answer result
-    → new ≡ happened calls.Rename (is_ok answer) here now → OnOk result (Finds MaySettle (IsNew mode bytes) new)
-settles_at step mode bytes file start mid now new trusted synced is_new so_far here answer (Err stopped) told crash = tt
-settles_at {T} {E} step mode bytes file start mid now new trusted synced is_new so_far here answer (Ok value) told crash =
-    settles mode bytes file start mid now trusted synced is_new so_far new (crash ∙ ap (λ (r : Result T E). happened calls.Rename (is_ok r) here now) told)
+  -- the file was renamed, or that failed
+  pub along_renamed : (new : History) → new ≡ Renamed ∷ place.history → AlwaysFinds MayLeave (IsOldOr place.history (Is place.files.beside)) place.history new
+  along_renamed new is = same_end (IsOldOr place.history (Is place.files.beside)) place.history (Renamed ∷ place.history) new (and_then (at_first (λ left may. inl may)) of_made) is
 
--- the file beside was to be removed
-pub removed : (step : Step) (ok is_left : Bool) (now put new : List Answered) → is_beside step ≡ true → ok ≡ not is_left → put ≡ now → new ≡ answered calls.Remove ok [] ∷ put → new ≡ with_removal step is_left now
-removed step ok is_left now put new beside answer made noted =
-    noted ∙ ap (λ (b : Bool). answered calls.Remove b [] ∷ put) answer ∙ ap (λ (m : List Answered). answered calls.Remove (not is_left) [] ∷ m) made
-    ∙ sym (ap (λ (b : Bool). if b then answered calls.Remove (not is_left) [] ∷ now else now) beside)
+  pub along_tried : (new : History) → new ≡ Tried ∷ place.history → AlwaysFinds MayLeave (IsOldOr place.history (Is place.files.beside)) place.history new
+  along_tried new is = same_end (IsOldOr place.history (Is place.files.beside)) place.history (Tried ∷ place.history) new (and_then (at_first (λ left may. inl may)) of_made) is
 
--- a removal fails only where a file may be left
-pub failed_has : {T E : Type 0} (answer : Result T E) (is_left has : Bool) → is_ok answer ≡ not is_left → IfErr answer (λ _. has ≡ true) → is_left ≡ true → has ≡ true
-failed_has (Ok value) is_left has answered kept told = let e : true ≡ false = answered ∙ ap not told in absurd (cc)
-failed_has (Err error) is_left has answered kept told = kept
+  pub along_none : (new : History) → new ≡ place.history → AlwaysFinds MayLeave (IsOldOr place.history (Is place.files.beside)) place.history new
+  along_none new is = same_end (IsOldOr place.history (Is place.files.beside)) place.history place.history new (at_first (λ left may. inl may)) is
+
+  pub settles : (new : History) → new ≡ Renamed ∷ place.history → Finds MaySettle (Is place.files.beside) new
+  settles new is left may = comes place ready left (subst (λ (h : History). MaySettle h left) is may)
+
+-- the file beside goes to the path, or that fails
+pub moves : {T E : Type 0} (value : T) (place mid new : Seen) → mid.files ≡ place.files → mid.history ≡ place.history → Fits calls.Rename true [] mid.files new.files → new.history ≡ Renamed ∷ mid.history → Moves {T = T} {E = E} (Ok value) place new
+moves value place mid new files history fits is =
+    let now : new.history ≡ Renamed ∷ place.history = is ∙ ap (λ (h : History). Renamed ∷ h) history in
+    record {
+      any_moment = λ ready. along_renamed place ready new.history now;
+      put = ap (λ (f : Folder). f.path) fits ∙ ap (λ (f : Folder). f.beside) files;
+      gone = ap (λ (f : Folder). f.beside) fits;
+      settles = λ ready. settles place ready new.history now;
+      left = tt;
+    }
+
+pub half_moved : {T E : Type 0} (error : E) (place mid new : Seen) → mid.files ≡ place.files → mid.history ≡ place.history → Fits calls.Rename false [] mid.files new.files → new.history ≡ Tried ∷ mid.history
+    → Moves {T = T} (Err (record { step = Rename; error = error })) place new
+half_moved error place mid new files history fits is =
+    record {
+      any_moment = λ ready. along_tried place ready new.history (is ∙ ap (λ (h : History). Tried ∷ h) history);
+      put = tt;
+      gone = tt;
+      settles = λ ready. tt;
+      left = either fits;
+    }
+  where
+    either : (new.files ≡ moved mid.files) ⊎ (new.files ≡ mid.files) → (new.files.path ≡ place.files.path) ⊎ (new.files.path ≡ place.files.beside)
+    either (inl moves) = inr (ap (λ (f : Folder). f.path) moves ∙ ap (λ (f : Folder). f.beside) files)
+    either (inr same) = inl (ap (λ (f : Folder). f.path) same ∙ ap (λ (f : Folder). f.path) files)
+
+pub not_moved : {T E : Type 0} (error : E) (place new : Seen) → new.files ≡ place.files → new.history ≡ place.history → Moves {T = T} (Err (record { step = Check; error = error })) place new
+not_moved error place new files history = record {
+  any_moment = λ ready. along_none place ready new.history history;
+  put = tt;
+  gone = tt;
+  settles = λ ready. tt;
+  left = ap (λ (f : Folder). f.path) files;
+}
+
+-- the folder was to be synced
+pub along_asked : (P : Left → Type 0) (start mid new : History) (answer : FolderSync) → AlwaysFinds MayLeave (IsOldOr start P) start mid → Finds MaySettle P mid → new ≡ Asked answer ∷ mid → AlwaysFinds MayLeave (IsOldOr start P) start new
+along_asked P start mid new Done so_far settles is = same_end (IsOldOr start P) start (Asked Done ∷ mid) new (and_then so_far (λ left may. inr (settles left may))) is
+along_asked P start mid new NotOffered so_far settles is = same_end (IsOldOr start P) start (Asked NotOffered ∷ mid) new (and_then so_far (leaves_now (IsOldOr start P) start mid so_far)) is
+
+pub stable : (P : Left → Type 0) (mid new : History) (answer : FolderSync) → Finds MaySettle P mid → new ≡ Asked answer ∷ mid → answer ≡ Done → Finds MayLeave P new
+stable P mid new answer settles is done left may =
+    let now : MayLeave (Asked Done ∷ mid) left = subst (λ (a : FolderSync). MayLeave (Asked a ∷ mid) left) done (subst (λ (h : History). MayLeave h left) is may) in settles left now
+
+-- what is true of the path after a step is true of it where the new file has more
+pub has_more : (P Q : Left → Type 0) (step : Step) (old now : Left) → ((left : Left) → P left → Q left) → HasAfter step P old now → HasAfter step Q old now
+has_more P Q Create old now gives has = has
+has_more P Q Write old now gives has = has
+has_more P Q SetOwner old now gives has = has
+has_more P Q SetMode old now gives has = has
+has_more P Q Sync old now gives has = has
+has_more P Q Check old now gives has = has
+has_more P Q Rename old now gives (inl same) = inl same
+has_more P Q Rename old now gives (inr has) = inr (gives now has)
+has_more P Q SyncFolder old now gives has = gives now has
+
+-- before the new file is whole the path has the old one
+pub early_has : (P : Left → Type 0) (step : Step) (old now : Left) → is_early step ≡ true → now ≡ old → HasAfter step P old now
+early_has P Create old now early same = same
+early_has P Write old now early same = same
+early_has P SetOwner old now early same = same
+early_has P SetMode old now early same = same
+early_has P Sync old now early same = same
+early_has P Check old now early same = same
+early_has P Rename old now early same = inl same
+early_has P SyncFolder old now early same = let e : false ≡ true = early in absurd (cc)
+
+-- a file that was prepared was put
+module _ (rights : Option Rights) (bytes : List ℕ) (old mid new : Seen) (spares : Spares old mid) (made : IsNew rights bytes mid.files.beside) (ready : IsReady mid) where
+  is_new : (left : Left) → Is mid.files.beside left → IsNew rights bytes left
+  is_new left is = subst (IsNew rights bytes) (sym is) made
+
+  any_moment : AlwaysFinds MayLeave (IsOldOr mid.history (Is mid.files.beside)) mid.history new.history → AlwaysFinds MayLeave (IsOldOr old.history (IsNew rights bytes)) old.history new.history
+  any_moment later = along_then (IsOldOr old.history (IsNew rights bytes)) old.history mid.history new.history
+      (weaker (MayLeave old.history) (IsOldOr old.history (IsNew rights bytes)) old.history mid.history (λ left may. inl may) spares.any_moment)
+      (weaker (IsOldOr mid.history (Is mid.files.beside)) (IsOldOr old.history (IsNew rights bytes)) mid.history new.history either later)
+    where
+      either : (left : Left) → IsOldOr mid.history (Is mid.files.beside) left → IsOldOr old.history (IsNew rights bytes) left
+      either left (inl may) = inl (leaves_now (MayLeave old.history) old.history mid.history spares.any_moment left may)
+      either left (inr is) = inr (is_new left is)
+
+  pub replaces : {E : Type 0} (result : Result FolderSync (Fault E)) → Puts result mid new → ReplacesFile rights bytes result old new
+  replaces (Ok answer) puts = record {
+    any_moment = any_moment (puts.any_moment ready);
+    put = is_new new.files.path puts.put;
+    gone = puts.gone;
+    told = puts.told;
+    stable = λ done left may. is_new left (puts.stable ready done left may);
+    left = tt;
+    cleaned = tt;
+  }
+  replaces (Err fault) puts = record {
+    any_moment = any_moment (puts.any_moment ready);
+    put = tt;
+    gone = tt;
+    told = tt;
+    stable = tt;
+    left = subst (λ (path : Left). HasAfter fault.step (IsNew rights bytes) path new.files.path) spares.path (has_more (Is mid.files.beside) (IsNew rights bytes) fault.step mid.files.path new.files.path is_new puts.left);
+    cleaned = puts.cleaned;
+  }
+
+-- no file was prepared
+pub not_replaced : {E : Type 0} (rights : Option Rights) (bytes : List ℕ) (fault : Fault E) (old new : Seen) → is_early fault.step ≡ true → Prepares rights bytes (Err fault) old new → ReplacesFile rights bytes (Err fault) old new
+not_replaced rights bytes fault old new early prepares = record {
+  any_moment = weaker (MayLeave old.history) (IsOldOr old.history (IsNew rights bytes)) old.history new.history (λ left may. inl may) prepares.spares.any_moment;
+  put = tt;
+  gone = tt;
+  told = tt;
+  stable = tt;
+  left = early_has (IsNew rights bytes) fault.step old.files.path new.files.path early prepares.spares.path;
+  cleaned = prepares.cleaned;
+}

@@ -10,7 +10,7 @@ use Rattle.file_replace.specs.OnPlace.{happened, synced}
 use Rattle.file_replace.specs.Calls.{LeavesSomething, history_of}
 
 no_file : PlainFile
-no_file = record { bytes = []; mode = 0 }
+no_file = record { bytes = []; owner = record { user = 0; group = 0 }; mode = 0 }
 
 may_be : (history : History) → (file : PlainFile) × MayBe history file
 may_be [] = (no_file, tt)
@@ -34,6 +34,7 @@ after : (call : Call) (ok : Bool) (old : Folder) (past : History) → Some_left 
 after (calls.Create is_private) true old past some = some
 after (calls.Create is_private) false old past some = some
 after calls.Write ok old past some = some
+after (calls.SetOwner owner now) ok old past some = some
 after (calls.SetMode mode) ok old past some = some
 after calls.Sync true old past some = of_sync old.beside past some
   where
@@ -41,6 +42,7 @@ after calls.Sync true old past some = of_sync old.beside past some
     of_sync None past some = some
     of_sync (Some file) past some = some
 after calls.Sync false old past some = some
+after calls.Check ok old past some = some
 after calls.Rename true old past some = (made past, (some.1.0, inl some.1.1))
 after calls.Rename false old past some = ((some.0.0, inl some.0.1), (some.1.0, inl some.1.1))
 after (calls.SyncFolder Done) true old past some = (some.0, some.0)

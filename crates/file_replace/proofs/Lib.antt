@@ -1,4 +1,4 @@
 pub mod Along
 pub mod Leaving
-pub mod Changing
-pub mod Putting
+pub mod Keeping
+pub mod NewFolders

@@ -1,12 +1,9 @@
 -- The calls at a path of the host with their answers, and which answers an honest host gives.
-use Rattle.std.specs.Prelude.{◌≡◌, ℕ, List, [], ◌∷◌, Option, None, Result}
+use Rattle.std.specs.Prelude.{◌≡◌, List, [], ◌∷◌, Option, None}
 use Rattle.file_replace.specs.declared.place.PlainFile.{PlainFile}
 use Rattle.file_replace.specs.declared.place.Event.TheVariants.{Found}
-use Rattle.file_replace.specs.declared.place.FolderSync.{FolderSync}
-use Rattle.file_replace.specs.declared.replacement.Fault.{Fault}
 use Rattle.file_replace.specs.Place.{Answered, Folder, History, MayLeave, Seen}
 use Rattle.file_replace.specs.OnPlace.{Fits, happened}
-use Rattle.file_replace.specs.Replacing.{ReplacesFile}
 
 -- what a path has and what is beside it, after each of the calls there
 abbrev pub HeldAt : Type 0
@@ -30,7 +27,3 @@ LeavesSomething = (held : HeldAt) (calls : List Answered) → (left : Option Pla
 -- a path of the host after these calls there
 abbrev pub seen_at : HeldAt → List Answered → Seen
 seen_at held calls = record { calls = calls; files = held calls; history = history_of held calls; is_honest = IsHonest held calls }
-
--- where the path is honest, these calls replaced its file: it has the old one or the new one, whatever fails
-abbrev pub ReplacesAt : {E : Type 0} → HeldAt → Option ℕ → List ℕ → Result FolderSync (Fault E) → List Answered → Type 0
-ReplacesAt held mode bytes result calls = IsHonest held calls → ReplacesFile mode bytes result (seen_at held []) (seen_at held calls)

@@ -1,135 +1,216 @@
--- What a replacement of an open file does, by the calls that the host was asked for. Which calls these are rests on no
--- premise about the host. What files have then rests on those of `Calls` and `InPlace`: that the host is honest.
-use Rattle.std.specs.Prelude.{◌≡◌, ℕ, ◌⊎◌, Bool, true, false, List, [], ◌∷◌, ◌++◌, Option, Some, None, is_some, Result, Ok, Err, IsErrAnd, ⊤}
+-- What is done for a file of the host, by the calls that it was asked for. Which calls these are rests on no premise
+-- about the host. What files have then rests on that of `Calls`: that the host is honest.
+use Rattle.std.specs.Prelude.{◌≡◌, ◌≢◌, ℕ, ◌⊎◌, Bool, true, false, not, List, [], ◌∷◌, ◌++◌, Option, Some, None, is_some, Result, Ok, Err, IsErrAnd, IsOkAnd, nat_lt, ◌==◌, if◌then◌else◌, ⊤}
 use Rattle.std.specs.Path.{path_buf_bytes}
-use Rattle.std.specs.IoError.{error_kind}
 use Rattle.std.specs.declared.io.Error.{Error}
-use Rattle.std.specs.declared.io.ErrorKind.TheVariants.{ResourceBusy}
-use Rattle.file_replace.specs.declared.calls.HeldCall.TheVariants.{OpenFolder, Put}
+use Rattle.std.specs.declared.path.buf.PathBuf.{PathBuf}
+use Rattle.std.specs.Global.{Global}
+use Rattle.file_replace.specs.declared.beside.Beside.{Beside}
+use Rattle.file_replace.specs.declared.calls.HeldCall.{HeldCall}
+use Rattle.file_replace.specs.declared.calls.HeldCall.TheVariants.{Found, OpenFolder, Put}
+use Rattle.file_replace.specs.declared.calls.HeldCall.TheVariants as held
 use Rattle.file_replace.specs.declared.calls.Call.TheVariants as calls
-use Rattle.file_replace.specs.declared.held.Held as declared
-use Rattle.file_replace.specs.declared.held.Outcome.{Outcome}
-use Rattle.file_replace.specs.declared.held.Outcome.TheVariants.{InPlace, Unchanged, Written}
+use Rattle.file_replace.specs.declared.calls.Kind.{Kind}
+use Rattle.file_replace.specs.declared.calls.Kind.TheVariants.{Regular, Other, Missing}
+use Rattle.file_replace.specs.declared.calls.Wanted.{Wanted}
+use Rattle.file_replace.specs.declared.calls.Wanted.TheVariants.{Same, Nothing, Anything}
+use Rattle.file_replace.specs.declared.destination.Destination.{Destination}
+use Rattle.file_replace.specs.declared.destination.Destination.TheVariants as destinations
+use Rattle.file_replace.specs.declared.held.Held.{Held}
+use Rattle.file_replace.specs.declared.host_place.There.{There}
+use Rattle.file_replace.specs.declared.host_place.There.TheVariants as places
+use Rattle.file_replace.specs.declared.pair.PairFault.{PairFault}
+use Rattle.file_replace.specs.declared.pair.PairFault.TheVariants as faults
 use Rattle.file_replace.specs.declared.place.FolderSync.{FolderSync}
 use Rattle.file_replace.specs.declared.place.FolderSync.TheVariants.{NotOffered}
+use Rattle.file_replace.specs.declared.prepared.Difference.{Difference}
+use Rattle.file_replace.specs.declared.prepared.Losses.{Losses}
+use Rattle.file_replace.specs.declared.prepared.NewFile.{NewFile}
+use Rattle.file_replace.specs.declared.prepared.NotBoth.{NotBoth}
+use Rattle.file_replace.specs.declared.prepared.NotBoth.TheVariants.{First, Second}
+use Rattle.file_replace.specs.declared.prepared.Outcome.{Outcome}
+use Rattle.file_replace.specs.declared.prepared.Outcome.TheVariants.{Unchanged, Written}
+use Rattle.file_replace.specs.declared.prepared.Prepared.{Prepared}
+use Rattle.file_replace.specs.declared.prepared.Prepared.TheVariants as prepared
 use Rattle.file_replace.specs.declared.replacement.Fault.{Fault}
-use Rattle.file_replace.specs.declared.replacement.Step.TheVariants.{Create, Rename}
+use Rattle.file_replace.specs.declared.replacement.Step.TheVariants.{Create}
+use Rattle.file_replace.specs.declared.rights.Owner.{Owner}
+use Rattle.file_replace.specs.declared.rights.Rights.{Rights}
 use Rattle.file_replace.specs.declared.told.NotReplaced.{NotReplaced}
 use Rattle.file_replace.specs.declared.told.NotReplaced.TheVariants as refusals
 use Rattle.file_replace.specs.declared.told.Stop.{Stop}
-use Rattle.file_replace.specs.Place.{Answered}
+use Rattle.file_replace.specs.Place.{Answered, IfHonest}
 use Rattle.file_replace.specs.OnPlace.{answered}
-use Rattle.file_replace.specs.Calls.{HeldAt, ReplacesAt}
-use Rattle.file_replace.specs.Replacing.{CallsOf}
-use Rattle.file_replace.specs.InPlace.{ChangesSo, Held, IsSettled, Log, NamesJournal, SettlesSo, journal_name}
+use Rattle.file_replace.specs.Calls.{HeldAt, seen_at}
+use Rattle.file_replace.specs.Pair.{CallsOfBoth, IfBothHonest, PutsBoth}
+use Rattle.file_replace.specs.Replacing.{CallsOf, CallsToPrepare, CallsToPut, Prepares, Puts, ReplacesFile}
 
--- these are the calls of a replacement that ended so, and its path has what this leaves
-abbrev pub IsReplaced : HeldAt → Option ℕ → List ℕ → Result FolderSync (Fault Error) → List Answered → Type 0
-IsReplaced there mode bytes result calls = CallsOf mode bytes result [] calls × ReplacesAt there mode bytes result calls
+-- what was done for a file, the newest first
+abbrev pub Log : Type 0
+Log = List HeldCall
 
--- the file at the path was replaced, or why not, and a file that is left beside it is reported
-abbrev pub EndsSo : HeldAt → Option ℕ → List ℕ → Result FolderSync Stop → List Answered → Type 0
-EndsSo there mode bytes (Ok answer) calls = IsReplaced there mode bytes (Ok answer) calls
-EndsSo there mode bytes (Err stop) calls = IsReplaced there mode bytes (Err (record { step = stop.step; error = stop.error; is_left = is_some stop.left })) calls
+-- a file that was made beside may be there still
+abbrev pub leaves : Option Beside → Bool
+leaves None = false
+leaves (Some beside) = is_some beside.path
 
--- a file was put at this path, whose folder is open, and ended so
-abbrev pub PutOpen : HeldAt → List ℕ → Option ℕ → List ℕ → Result FolderSync Stop → Log → Log → Type 0
-PutOpen there path mode bytes result old new = (calls : List Answered) × (new ≡ Put path calls ∷ old) × EndsSo there mode bytes result calls
+-- a fault as it is reported: with the path of the file that is left beside
+abbrev pub fault_of : Stop → Fault Error
+fault_of stop = record { step = stop.step; error = stop.error; is_left = is_some stop.left }
 
--- the folder of this path couldn't be opened, so no call was made there
-abbrev pub IsShut : List ℕ → Stop → Log → Log → Type 0
-IsShut path stop old new = (stop.step ≡ Create) × (stop.left ≡ None) × (new ≡ Put path [] ∷ OpenFolder false ∷ old)
+abbrev pub end_of : {T : Type 0} → Result T Stop → Result T (Fault Error)
+end_of (Ok value) = Ok value
+end_of (Err stop) = Err (fault_of stop)
 
--- a file was put at this path once its folder was open, and ended so; or that can't be opened
-abbrev pub PutAt : HeldAt → List ℕ → Option ℕ → List ℕ → Result FolderSync Stop → Log → Log → Type 0
-PutAt there path mode bytes result old new = PutOpen there path mode bytes result (OpenFolder true ∷ old) new ⊎ IsErrAnd result (λ stop. IsShut path stop old new)
+-- what a path has to have when a file is renamed to it
+abbrev pub wanted_of : There → Wanted
+wanted_of (places.This file) = Same
+wanted_of places.Nothing = Nothing
+wanted_of places.Anything = Anything
 
--- the same file is open
-abbrev pub IsSameFile : declared.Held → declared.Held → Type 0
-IsSameFile old new = (new.file ≡ old.file) × (new.path ≡ old.path) × (new.mode ≡ old.mode)
+-- the folder of a path couldn't be opened, so that no call was made there
+abbrev pub IsShut : Wanted → Stop → Log → Log → Type 0
+IsShut wanted stop old new = (stop.step ≡ Create) × (stop.left ≡ None) × (new ≡ OpenFolder wanted false ∷ old)
 
--- the path can't be renamed over, and nothing is left beside it
-abbrev pub IsBusy : Stop → Type 0
-IsBusy stop = (stop.step ≡ Rename) × (error_kind stop.error ≡ ResourceBusy) × (stop.left ≡ None)
+-- these calls made a file beside a path, or they were to
+abbrev pub IsPrepared : HeldAt → Option Rights → List ℕ → Result (Option Owner) (Fault Error) → List Answered → Type 0
+IsPrepared there rights bytes result calls = CallsToPrepare rights bytes result [] calls × IfHonest (Prepares rights bytes result) (seen_at there []) (seen_at there calls)
 
--- the file was changed in its place, or why not
-abbrev pub PutsInPlace : Held → List ℕ → Result Outcome NotReplaced → Log → Log → Type 0
-PutsInPlace held bytes (Ok InPlace) old new = ChangesSo {T = ⊤} held bytes (Ok tt) old new
-PutsInPlace held bytes (Err (refusals.InPlace cut)) old new = ChangesSo {T = ⊤} held bytes (Err cut) old new
-PutsInPlace held bytes result old new = ⊥
+-- another number than before, if it is one
+abbrev pub difference : ℕ → ℕ → Option Difference
+difference old new = if old == new then None else Some (record { old = old; new = new })
 
--- a new file couldn't be renamed to the path, and so it was changed in its place, or why not
-abbrev pub TriesBoth : HeldAt → Held → List ℕ → ℕ → List ℕ → Result Outcome NotReplaced → Log → Log → Type 0
-TriesBoth there held path mode bytes result old new = (stop : Stop) × (mid : Log) × IsBusy stop × PutAt there path (Some mode) bytes (Err stop) old mid × PutsInPlace held bytes result mid new
+-- what a file of these rights and so many names loses where the new one belongs to these
+abbrev pub losses_by : Option Rights → ℕ → Option Owner → Losses
+losses_by (Some rights) names (Some now) = record { names = if nat_lt 1 names then Some names else None; user = difference rights.owner.user now.user; group = difference rights.owner.group now.group }
+losses_by rights names now = record { names = None; user = None; group = None }
 
--- The new file was put at the path, or the one that is there was changed in its place, or why not. It is changed in its
--- place only where it can't be renamed over.
-abbrev pub PutsFile : HeldAt → Held → List ℕ → ℕ → List ℕ → Result Outcome NotReplaced → Log → Log → Type 0
-PutsFile there held path mode bytes (Ok Unchanged) old new = ⊥
-PutsFile there held path mode bytes (Ok (Written answer)) old new = PutAt there path (Some mode) bytes (Ok answer) old new
-PutsFile there held path mode bytes (Ok InPlace) old new = TriesBoth there held path mode bytes (Ok InPlace) old new
-PutsFile there held path mode bytes (Err (refusals.Stopped stop)) old new = ¬ IsBusy stop × PutAt there path (Some mode) bytes (Err stop) old new
-PutsFile there held path mode bytes (Err (refusals.InPlace cut)) old new = TriesBoth there held path mode bytes (Err (refusals.InPlace cut)) old new
-PutsFile there held path mode bytes (Err refusal) old new = ⊥
+-- what is lost by what is prepared
+abbrev pub prepared_losses : {F : Type 0} → Prepared F → Losses
+prepared_losses (prepared.File file) = file.losses
+prepared_losses it = record { names = None; user = None; group = None }
+
+-- A file was made beside this path, whose folder is open, or why not. It is renamed only while the path has what is
+-- wanted.
+abbrev pub MakesFile : {F : Type 0} → HeldAt → List ℕ → Wanted → Option Rights → ℕ → List ℕ → Result (NewFile F) Stop → Log → Log → Type 0
+MakesFile there path wanted rights names bytes (Ok file) old new = (path_buf_bytes file.path ≡ path) × (new ≡ OpenFolder wanted true ∷ old)
+    × ((now : Option Owner) × IsPrepared there rights bytes (Ok now) file.place.log.events × (file.losses ≡ losses_by rights names now))
+MakesFile there path wanted rights names bytes (Err stop) old new = IsShut wanted stop old new ⊎ ((calls : List Answered) × (new ≡ Put path calls ∷ OpenFolder wanted true ∷ old) × IsPrepared there rights bytes (Err (fault_of stop)) calls)
+
+-- the same of what is prepared
+abbrev pub MakesPrepared : {F : Type 0} → HeldAt → List ℕ → Wanted → Option Rights → ℕ → List ℕ → Result (Prepared F) NotReplaced → Log → Log → Type 0
+MakesPrepared there path wanted rights names bytes (Ok (prepared.File file)) old new = MakesFile there path wanted rights names bytes (Ok file) old new
+MakesPrepared {F} there path wanted rights names bytes (Err (refusals.Stopped stop)) old new = MakesFile {F = F} there path wanted rights names bytes (Err stop) old new
+MakesPrepared there path wanted rights names bytes result old new = ⊥
+
+-- the file beside its path was put there, or why not
+abbrev pub PutsFile : {F : Type 0} → HeldAt → NewFile F → Result FolderSync Stop → Log → Log → Type 0
+PutsFile there file result old new = (calls : List Answered) × (new ≡ Put (path_buf_bytes file.path) calls ∷ old) × CallsToPut (end_of result) file.place.log.events calls
+    × IfHonest (Puts (end_of result)) (seen_at there file.place.log.events) (seen_at there calls)
+
+-- the file beside its path was removed, or is left
+abbrev pub GivesUp : {F : Type 0} → NewFile F → Option (PathBuf Global) → Log → Log → Type 0
+GivesUp file left old new = new ≡ Put (path_buf_bytes file.path) (answered calls.Remove (not (is_some left)) [] ∷ file.place.log.events) ∷ old
+
+-- what is prepared was put, or why not
+abbrev pub PutsPrepared : {F : Type 0} → HeldAt → Prepared F → Result Outcome NotReplaced → Log → Log → Type 0
+PutsPrepared there prepared.Unchanged (Ok Unchanged) old new = new ≡ old
+PutsPrepared there (prepared.File file) (Ok (Written answer)) old new = PutsFile there file (Ok answer) old new
+PutsPrepared there (prepared.File file) (Err (refusals.Stopped stop)) old new = PutsFile there file (Err stop) old new
+PutsPrepared there (prepared.Stream stream) (Ok (Written answer)) old new = (answer ≡ NotOffered) × (new ≡ held.Stream true stream.bytes.now ∷ old)
+PutsPrepared there (prepared.Stream stream) (Err (refusals.Stream error)) old new = new ≡ held.Stream false stream.bytes.now ∷ old
+PutsPrepared there it result old new = ⊥
+
+-- what is prepared was given up, and a file that couldn't be removed is reported
+abbrev pub GivesUpPrepared : {F : Type 0} → Prepared F → Option (PathBuf Global) → Log → Log → Type 0
+GivesUpPrepared (prepared.File file) left old new = GivesUp file left old new
+GivesUpPrepared it left old new = (left ≡ None) × (new ≡ old)
+
+-- two files of these places were put, the second only after the first
+abbrev pub PutsFiles : {F G : Type 0} → HeldAt → HeldAt → NewFile F → NewFile G → Result (FolderSync × FolderSync) (PairFault Error Error) → Log → Log → Type 0
+PutsFiles there also first second result old new = (calls : List Answered) × (others : List Answered)
+    × (new ≡ Put (path_buf_bytes second.path) others ∷ Put (path_buf_bytes first.path) calls ∷ old)
+    × CallsOfBoth result first.place.log.events calls second.place.log.events others
+    × IfBothHonest (PutsBoth result (seen_at there first.place.log.events) (seen_at there calls) (seen_at also second.place.log.events) (seen_at also others))
+    (seen_at there first.place.log.events) (seen_at there calls) (seen_at also second.place.log.events) (seen_at also others)
+
+-- the end of two files, as it is reported
+abbrev pub EndsBoth : (Result (FolderSync × FolderSync) (PairFault Error Error) → Type 0) → Result (FolderSync × FolderSync) NotBoth → Type 0
+EndsBoth P (Ok answers) = P (Ok answers)
+EndsBoth P (Err (First (refusals.Stopped stop) left)) = P (Err (faults.First (fault_of stop) (is_some left)))
+EndsBoth P (Err (Second (refusals.Stopped stop))) = P (Err (faults.Second (fault_of stop)))
+EndsBoth P result = ⊥
+
+-- one was put, and then the other; or the first was not, and the other was given up
+abbrev pub PutsInTurn : {F G : Type 0} → HeldAt → HeldAt → Prepared F → Prepared G → Result (Outcome × Outcome) NotBoth → Log → Log → Type 0
+PutsInTurn there also first second (Ok outcomes) old new = (mid : Log) × PutsPrepared there first (Ok outcomes.0) old mid × PutsPrepared also second (Ok outcomes.1) mid new
+PutsInTurn there also first second (Err (First refusal left)) old new = (mid : Log) × PutsPrepared there first (Err refusal) old mid × GivesUpPrepared second left mid new
+PutsInTurn there also first second (Err (Second refusal)) old new = (mid : Log) × ((outcome : Outcome) × PutsPrepared there first (Ok outcome) old mid) × PutsPrepared also second (Err refusal) mid new
+
+-- two files are put as such, and anything else in turn
+abbrev pub PutsTwo : {F G : Type 0} → HeldAt → HeldAt → Prepared F → Prepared G → Result (Outcome × Outcome) NotBoth → Log → Log → Type 0
+PutsTwo there also (prepared.File first) (prepared.File second) (Ok (Written answer, Written other)) old new = EndsBoth (λ end. PutsFiles there also first second end old new) (Ok (answer, other))
+PutsTwo there also (prepared.File first) (prepared.File second) (Err refusal) old new = EndsBoth (λ end. PutsFiles there also first second end old new) (Err refusal)
+PutsTwo there also (prepared.File first) (prepared.File second) (Ok outcomes) old new = ⊥
+PutsTwo there also first second result old new = PutsInTurn there also first second result old new
+
+-- a file was put at a path, whatever is there, in the place of one of these rights, or why not
+abbrev pub PutsOver : HeldAt → List ℕ → Rights → List ℕ → Result FolderSync Stop → Log → Log → Type 0
+PutsOver there path rights bytes result old new = IsErrAnd result (λ stop. IsShut Anything stop old new)
+    ⊎ ((calls : List Answered) × (new ≡ Put path calls ∷ OpenFolder Anything true ∷ old) × CallsOf (Some rights) bytes (end_of result) [] calls × IfHonest (ReplacesFile (Some rights) bytes (end_of result)) (seen_at there []) (seen_at there calls))
 
 -- `NAME~` beside a file
 abbrev pub backup_name : List ℕ → List ℕ
 backup_name path = path ++ 126 ∷ []
 
--- a copy was put at the name of the path's backup, or why not
-abbrev pub BacksUp : {T : Type 0} → HeldAt → List ℕ → ℕ → List ℕ → Result T NotReplaced → Log → Log → Type 0
-BacksUp there path mode bytes (Ok done) old new = (answer : FolderSync) × PutAt there (backup_name path) (Some mode) bytes (Ok answer) old new
-BacksUp there path mode bytes (Err (refusals.NoBackup name stop)) old new = PutAt there (backup_name path) (Some mode) bytes (Err stop) old new
-BacksUp there path mode bytes (Err refusals.HostFull) old new = new ≡ old
-BacksUp there path mode bytes (Err refusal) old new = ⊥
+-- a copy of a file was put at the name of its backup, or why not
+abbrev pub BacksUp : {T : Type 0} → HeldAt → Held → List ℕ → Result T NotReplaced → Log → Log → Type 0
+BacksUp there held bytes (Ok done) old new = (answer : FolderSync) × PutsOver there (backup_name (path_buf_bytes held.path)) held.rights bytes (Ok answer) old new
+BacksUp there held bytes (Err (refusals.NoBackup name stop)) old new = (path_buf_bytes name ≡ backup_name (path_buf_bytes held.path)) × PutsOver there (backup_name (path_buf_bytes held.path)) held.rights bytes (Err stop) old new
+BacksUp there held bytes (Err refusals.HostFull) old new = new ≡ old
+BacksUp there held bytes (Err refusal) old new = ⊥
 
--- the backup that a refusal names has the path's name with a tilde, and a journal that is left has its own
-abbrev pub TellsNames : List ℕ → NotReplaced → Type 0
-TellsNames path (refusals.NoBackup name stop) = path_buf_bytes name ≡ backup_name path
-TellsNames path (refusals.InPlace cut) = NamesJournal (journal_name path) cut
-TellsNames path refusal = ⊤
+-- where a copy of a file is kept, it is put before the new one is made, and where that fails none is made
+abbrev pub MakesOver : {F : Type 0} → HeldAt → HeldAt → Bool → Held → List ℕ → List ℕ → Result (Prepared F) NotReplaced → Log → Log → Type 0
+MakesOver there backup false held before after result old new = MakesPrepared there (path_buf_bytes held.path) Same (Some held.rights) held.names after result old new
+MakesOver there backup true held before after result old new = IsErrAnd result (λ refusal. BacksUp {T = ⊤} backup held before (Err refusal) old new)
+    ⊎ ((mid : Log) × BacksUp {T = ⊤} backup held before (Ok tt) old mid × MakesPrepared there (path_buf_bytes held.path) Same (Some held.rights) held.names after result mid new)
 
--- Where the bytes are the same, no call is made. Else, where the old ones are kept, they are put at the backup's name
--- first, and where that fails no call is made at the file.
-abbrev pub ReplacesHeld : HeldAt → HeldAt → Held → Bool → List ℕ → ℕ → List ℕ → List ℕ → Result Outcome NotReplaced → Log → Log → Type 0
-ReplacesHeld there backup held keeps_old path mode before after (Ok Unchanged) old new = new ≡ old
-ReplacesHeld there backup held false path mode before after result old new = PutsFile there held path mode after result old new
-ReplacesHeld there backup held true path mode before after result old new = IsErrAnd result (λ refusal. BacksUp {T = ⊤} backup path mode before (Err refusal) old new)
-    ⊎ ((mid : Log) × BacksUp {T = ⊤} backup path mode before (Ok tt) old mid × PutsFile there held path mode after result mid new)
+-- where the bytes are the same nothing is done
+abbrev pub PreparesHeld : {F : Type 0} → HeldAt → HeldAt → Bool → Held → List ℕ → List ℕ → Result (Prepared F) NotReplaced → Log → Log → Type 0
+PreparesHeld there backup keeps_old held before after result old new = ((before ≡ after) × (result ≡ Ok prepared.Unchanged) × (new ≡ old)) ⊎ ((before ≢ after) × MakesOver there backup keeps_old held before after result old new)
+
+-- these bytes are for a stream
+abbrev pub IsForStream : {F : Type 0} → List ℕ → Prepared F → Type 0
+IsForStream bytes (prepared.Stream stream) = stream.bytes.now ≡ bytes
+IsForStream bytes it = ⊥
+
+-- A file is made beside the one that is there, whose rights it gets, or beside a path that has none. For a stream
+-- nothing is done.
+abbrev pub PreparesAt : {F : Type 0} → HeldAt → Destination → List ℕ → Result (Prepared F) NotReplaced → Log → Log → Type 0
+PreparesAt there (destinations.Existing held) bytes result old new = MakesPrepared there (path_buf_bytes held.path) Same (Some held.rights) held.names bytes result old new
+PreparesAt there (destinations.New it) bytes result old new = MakesPrepared there (path_buf_bytes it.path) Nothing None 1 bytes result old new
+PreparesAt there (destinations.Stream stream) bytes result old new = IsOkAnd result (IsForStream bytes) × (new ≡ old)
 
 -- the path wasn't opened: no file was to be put yet
 abbrev pub IsUnopened : NotReplaced → Type 0
 IsUnopened (refusals.Stopped stop) = ⊥
 IsUnopened (refusals.NoBackup name stop) = ⊥
-IsUnopened (refusals.InPlace cut) = ⊥
+IsUnopened (refusals.Stream error) = ⊥
 IsUnopened refusal = ⊤
 
--- what was done where a path wasn't opened: nothing, or its journal couldn't be used
-abbrev pub LeftSo : Held → NotReplaced → Log → Log → Type 0
-LeftSo held refusal old new = (new ≡ old) ⊎ ((path : List ℕ) × SettlesSo {T = ⊤} held path (Err refusal) old new)
+-- what a path leads to that was opened
+abbrev pub kind_of : Destination → Kind
+kind_of (destinations.Existing held) = Regular
+kind_of (destinations.New it) = Missing
+kind_of (destinations.Stream stream) = Other
 
--- what was done where the first is said may have been done where the second is
-abbrev pub LeavesSame : NotReplaced → NotReplaced → Type 0
-LeavesSame first second = (held : Held) (old new : Log) → LeftSo held first old new → LeftSo held second old new
+-- the path was looked at, and this was found
+abbrev pub Looks : Result Kind NotReplaced → Log → Log → Type 0
+Looks (Ok kind) old new = new ≡ Found kind ∷ old
+Looks (Err refusal) old new = IsUnopened refusal × (new ≡ old)
 
--- what is no regular file was written to as it is
-abbrev pub WritesThrough : List ℕ → List ℕ → Bool → Log → Type 0
-WritesThrough path bytes ok new = new ≡ Put path (answered calls.Write ok bytes ∷ []) ∷ []
-
--- a file was put at a path that has none, or why not
-abbrev pub PutsNew : HeldAt → List ℕ → Result Outcome NotReplaced → Log → Log → Type 0
-PutsNew there bytes (Ok (Written answer)) old new = (path : List ℕ) × PutAt there path None bytes (Ok answer) old new
-PutsNew there bytes (Ok outcome) old new = ⊥
-PutsNew there bytes (Err (refusals.Stopped stop)) old new = (path : List ℕ) × PutAt there path None bytes (Err stop) old new
-PutsNew there bytes (Err refusal) old new = IsUnopened refusal × (new ≡ old)
-
--- what is no regular file was written to as it is, or why not
-abbrev pub WritesSo : List ℕ → List ℕ → Result Outcome NotReplaced → Log → Type 0
-WritesSo path bytes (Ok outcome) new = (outcome ≡ Written NotOffered) × WritesThrough path bytes true new
-WritesSo path bytes (Err refusal) new = IsUnopened refusal × WritesThrough path bytes false new
-
--- Bytes were written at a path: to the file that is there, once it was settled, as a new file, or through to what is no
--- regular file. Else the path wasn't opened, and at most its journal was tried.
-abbrev pub Saves : HeldAt → Held → Held → List ℕ → List ℕ → Result Outcome NotReplaced → Log → Type 0
-Saves there settled held path bytes result new = ((start : Log) × (followed : List ℕ) × (mode : ℕ) × IsSettled settled [] start × PutsFile there held followed mode bytes result start new)
-    ⊎ PutsNew there bytes result [] new ⊎ WritesSo path bytes result new ⊎ IsErrAnd result (λ refusal. IsUnopened refusal × LeftSo settled refusal [] new)
+-- a path was opened as what was found there, or it wasn't, and at most it was looked at
+abbrev pub OpensAs : {T : Type 0} → (T → Kind) → Result T NotReplaced → Log → Log → Type 0
+OpensAs kind_of (Ok value) old new = new ≡ Found (kind_of value) ∷ old
+OpensAs kind_of (Err refusal) old new = IsUnopened refusal × ((new ≡ old) ⊎ ((kind : Kind) × (new ≡ Found kind ∷ old)))

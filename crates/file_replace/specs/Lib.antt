@@ -1,8 +1,9 @@
+pub mod Rights
 pub mod Place
 pub mod OnPlace
 pub mod Replacing
+pub mod Pair
 pub mod Calls
 pub mod Memory
 pub mod Held
-pub mod Changed
-pub mod InPlace
+pub mod NewFolder

@@ -5,13 +5,19 @@ use Rattle.file_replace.specs.declared.calls.Noted.{Noted}
 use Rattle.file_replace.specs.declared.mem_place.MemFile.{MemFile}
 use Rattle.file_replace.specs.declared.mem_place.MemPlace.{MemPlace}
 use Rattle.file_replace.specs.declared.place.PlainFile.{PlainFile}
+use Rattle.file_replace.specs.declared.rights.Owner.{Owner}
 use Rattle.file_replace.specs.Place.{Folder, History, Seen}
 use Rattle.file_replace.specs.OnPlace.{happened}
 
 -- a file in memory, if there is one
 abbrev pub seen : Option MemFile → Option PlainFile
 seen None = None
-seen (Some file) = Some (record { bytes = file.bytes.items; mode = file.mode })
+seen (Some file) = Some (record { bytes = file.bytes.items; owner = file.owner; mode = file.mode })
+
+-- the file with another owner
+abbrev pub with_owner : Owner → Option MemFile → Option MemFile
+with_owner owner None = None
+with_owner owner (Some file) = Some (record file { owner = owner })
 
 -- the files of a place
 abbrev pub folder : Option MemFile → Option MemFile → Folder

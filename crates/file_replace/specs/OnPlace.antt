@@ -3,6 +3,7 @@ use Rattle.std.specs.Prelude.{◌≡◌, ℕ, ◌⊎◌, Bool, true, false, IsTr
 use Rattle.file_replace.specs.declared.calls.Call.{Call}
 use Rattle.file_replace.specs.declared.calls.Call.TheVariants as calls
 use Rattle.file_replace.specs.declared.place.PlainFile.{PlainFile}
+use Rattle.file_replace.specs.declared.rights.Owner.{Owner}
 use Rattle.file_replace.specs.declared.place.FolderSync.{FolderSync}
 use Rattle.file_replace.specs.declared.place.FolderSync.TheVariants.{NotOffered}
 use Rattle.file_replace.specs.declared.place.Event.TheVariants.{Made, Changed, Synced, Failed, Renamed, Tried, Asked}
@@ -16,14 +17,20 @@ moved folder = record { path = folder.beside; beside = None }
 abbrev pub Becomes : (PlainFile → PlainFile) → Folder → Folder → Type 0
 Becomes change old new = (file : PlainFile) → old.beside ≡ Some file → new.beside ≡ Some (change file)
 
--- The answer of a call fits a folder that had the old files before it and has the new ones after it. A write and a mode
--- change the file beside alone, a rename is done or not, and a file that can't be made isn't there.
+-- the file beside belongs to these now, if there was one, and has its bytes still
+abbrev pub IsGiven : Owner → Folder → Folder → Type 0
+IsGiven owner old new = (file : PlainFile) → old.beside ≡ Some file → (given : PlainFile) × (new.beside ≡ Some given) × (given.bytes ≡ file.bytes) × (given.owner ≡ owner)
+
+-- The answer of a call fits a folder that had the old files before it and has the new ones after it. A write, an owner and
+-- a mode change the file beside alone, a rename is done or not, and a file that can't be made isn't there.
 abbrev pub Fits : Call → Bool → List ℕ → Folder → Folder → Type 0
 Fits (calls.Create is_private) true bytes old new = (new.path ≡ old.path) × ((file : PlainFile) × (new.beside ≡ Some file) × (file.bytes ≡ []))
 Fits (calls.Create is_private) false bytes old new = new ≡ old
 Fits calls.Write ok bytes old new = (new.path ≡ old.path) × (IsTrue ok → Becomes (λ file. record file { bytes = file.bytes ++ bytes }) old new)
+Fits (calls.SetOwner owner now) ok bytes old new = (new.path ≡ old.path) × (IsTrue ok → IsGiven now old new)
 Fits (calls.SetMode mode) ok bytes old new = (new.path ≡ old.path) × (IsTrue ok → Becomes (λ file. record file { mode = mode }) old new)
 Fits calls.Sync ok bytes old new = new ≡ old
+Fits calls.Check ok bytes old new = new ≡ old
 Fits calls.Rename true bytes old new = new ≡ moved old
 Fits calls.Rename false bytes old new = (new ≡ moved old) ⊎ (new ≡ old)
 Fits (calls.SyncFolder answer) ok bytes old new = new ≡ old
@@ -39,9 +46,11 @@ abbrev pub happened : Call → Bool → Folder → History → History
 happened (calls.Create is_private) true old past = Made ∷ past
 happened (calls.Create is_private) false old past = past
 happened calls.Write ok old past = Changed ∷ past
+happened (calls.SetOwner owner now) ok old past = Changed ∷ past
 happened (calls.SetMode mode) ok old past = Changed ∷ past
 happened calls.Sync true old past = synced old.beside past
 happened calls.Sync false old past = Failed ∷ past
+happened calls.Check ok old past = past
 happened calls.Rename true old past = Renamed ∷ past
 happened calls.Rename false old past = Tried ∷ past
 happened (calls.SyncFolder answer) true old past = Asked answer ∷ past
@@ -52,6 +61,11 @@ happened calls.Remove ok old past = past
 abbrev pub told : {E : Type 0} → Result FolderSync E → FolderSync
 told (Ok answer) = answer
 told (Err error) = NotOffered
+
+-- to whom a file belongs that was to be given to these
+abbrev pub now_of : {E : Type 0} → Owner → Result Owner E → Owner
+now_of owner (Ok now) = now
+now_of owner (Err error) = owner
 
 -- a call with its answer
 abbrev pub answered : Call → Bool → List ℕ → Answered

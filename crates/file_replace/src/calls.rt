@@ -1,12 +1,11 @@
 //! The calls that were made at a path of the host, for clauses alone.
 
-ghost use Rattle.std.specs.Prelude.{◌≡◌, [], ◌∷◌};
-ghost use Rattle.file_replace.specs.declared.calls.HeldCall.TheVariants.{InPlace, OpenFolder, Put};
+ghost use Rattle.std.specs.Prelude.{◌≡◌, ◌∷◌};
+ghost use Rattle.file_replace.specs.declared.calls.HeldCall.TheVariants.{Found, OpenFolder, Put, Stream};
 
-use crate::changed::Reached;
 use crate::place::FolderSync;
+use crate::rights::Owner;
 use fork_disk::Record;
-use fork_journal::{FilePair, Journal, PairWorld};
 use std::collections::LinkedList;
 
 /// A call of the system at a path, or on the file beside it.
@@ -16,10 +15,14 @@ pub enum Call {
     Create(bool),
     /// It wrote to the end of it.
     Write,
+    /// It was to give it this owner, and it has the second then.
+    SetOwner(Owner, Owner),
     /// It gave it this mode.
     SetMode(u32),
     /// It synced it.
     Sync,
+    /// It asked whether the path still leads to what it led to.
+    Check,
     /// It renamed it to the path.
     Rename,
     /// It was to sync the folder, and this was answered.
@@ -38,43 +41,43 @@ pub struct Noted {
 /// The calls with their answers, the newest first, and the bytes that were given to each.
 pub type PlaceCalls = Record<(Noted, LinkedList<u8>)>;
 
-/// What was done for a file that is changed in its place, and how it ended.
-#[derive(Clone, Copy)]
-pub enum JournalCall {
-    /// It looked for a journal, and whether there may be one.
-    Look(bool),
-    /// It was to make an empty one, and whether it did.
-    Make(bool),
-    /// It was to sync the folder, and whether it did.
-    SyncFolder(bool),
-    /// It was to settle what an earlier change left, and whether it did.
-    Settle(bool),
-    /// It was to give the file other bytes, and which it has.
-    Change(Reached),
-    /// It was to remove the journal, and whether it did.
-    Remove(bool),
+/// What a path leads to.
+#[derive(Clone, Copy, Debug, PartialEq, Eq)]
+pub enum Kind {
+    /// A regular file.
+    Regular,
+    /// Something else, as a device or a pipe.
+    Other,
+    /// Nothing so far.
+    Missing,
+}
+
+/// What a path has to have when a file is renamed to it.
+#[derive(Clone, Copy, Debug, PartialEq, Eq)]
+pub enum Wanted {
+    /// The file that was opened there.
+    Same,
+    /// Nothing, not even a link.
+    Nothing,
+    /// Whatever is there.
+    Anything,
 }
 
 /// What was done for a file.
 #[derive(Drop)]
 pub enum HeldCall {
-    /// It was to open the folder in which a file is put, to sync that, and whether it did.
-    OpenFolder(bool),
-    /// A file was put at this path, by these calls.
+    /// It looked at what a path leads to, and this was found.
+    Found(Kind),
+    /// It was to open the folder in which a file is put, where the path has this, and whether it did.
+    OpenFolder(Wanted, bool),
+    /// A file was put at this path, or was to be, by these calls.
     Put(LinkedList<u8>, LinkedList<(Noted, LinkedList<u8>)>),
-    /// It was to be changed in its place, by these calls on it and its journal.
-    InPlace(JournalCall, LinkedList<(LinkedList<u64>, LinkedList<u8>)>),
+    /// These bytes were to be written to what is no regular file, and whether they were.
+    Stream(bool, LinkedList<u8>),
 }
 
 /// What was done for a file, the newest first.
 pub type HeldCalls = Record<HeldCall>;
-
-/// The same record once more.
-pub(crate) fn copied(log: &HeldCalls) -> HeldCalls
-    ensures { result.events ≡ log.now.events }
-{
-    Record::of_events_beside(log, &(), &())
-}
 
 /// Notes the calls that a file took, and at which path.
 pub(crate) fn note_at(log: &mut HeldCalls, path: &str, calls: &PlaceCalls)
@@ -83,29 +86,25 @@ pub(crate) fn note_at(log: &mut HeldCalls, path: &str, calls: &PlaceCalls)
     *log = Record::of_events_beside(log, &path, calls);
 }
 
-/// Notes whether the folder was opened in which a file is put.
-pub(crate) fn note_folder(log: &mut HeldCalls, is_done: bool)
-    ensures { log.new.events ≡ OpenFolder is_done ∷ log.old.events }
+/// Notes whether the folder was opened in which a file is put, and what its path has to have then.
+pub(crate) fn note_folder(log: &mut HeldCalls, wanted: Wanted, is_done: bool)
+    ensures { log.new.events ≡ OpenFolder wanted is_done ∷ log.old.events }
 {
-    *log = Record::of_events_beside(log, &is_done, &());
+    *log = Record::of_events_beside(log, &wanted, &is_done);
 }
 
-/// Notes what was done at a journal's name.
-pub(crate) fn note_name(log: &mut HeldCalls, call: JournalCall)
-    ensures { log.new.events ≡ InPlace call [] ∷ log.old.events }
+/// Notes what a path leads to.
+pub(crate) fn note_kind(log: &mut HeldCalls, kind: Kind)
+    ensures { log.new.events ≡ Found kind ∷ log.old.events }
 {
-    *log = Record::of_events_beside(log, &call, &());
+    *log = Record::of_events_beside(log, &kind, &());
 }
 
-/// Notes what was done to a file and its journal.
-pub(crate) fn note_pair<W: PairWorld>(
-    log: &mut HeldCalls,
-    call: JournalCall,
-    store: &Journal<FilePair<W>>,
-)
-    ensures { log.new.events ≡ InPlace call store.now.pair.log.events ∷ log.old.events }
+/// Notes what was to be written to a stream.
+pub(crate) fn note_stream(log: &mut HeldCalls, is_done: bool, bytes: &[u8])
+    ensures { log.new.events ≡ Stream is_done bytes.now ∷ log.old.events }
 {
-    *log = Record::of_events_beside(log, &call, store);
+    *log = Record::of_events_beside(log, &is_done, &bytes);
 }
 
 /// Notes a call with its answer.

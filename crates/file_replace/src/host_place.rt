@@ -1,60 +1,62 @@
 //! A path of the host.
 
-ghost use Rattle.std.specs.Prelude.{◌≡◌, [], ◌∷◌, is_ok, is_some, IfOk, None, Ok, option_map};
+ghost use Rattle.std.specs.Prelude.{◌≡◌, [], ◌∷◌, is_ok, is_some, IfOk, None, Ok};
 ghost use Rattle.fork_disk.specs.Disk.{Counts};
 ghost use Rattle.file_replace.specs.Calls.{seen_at};
+ghost use Rattle.file_replace.specs.Held.{leaves, wanted_of};
 ghost use Rattle.file_replace.specs.declared.calls.HeldCall.TheVariants.{OpenFolder};
 
-use crate::calls::{Call, HeldCalls, Noted, PlaceCalls, note, note_folder};
-use crate::links::folder_of;
+use crate::beside::Beside;
+use crate::calls::{Call, HeldCalls, Noted, PlaceCalls, Wanted, note, note_folder};
+use crate::links::{folder_name, is_free, leads_to};
 use crate::place::{FolderSync, Replaces};
+use crate::rights::Owner;
 use crate::world::FolderWorld;
 use fork_disk::Record;
-use std::alloc::AllocError;
-use std::fs::{File, OpenOptions, Permissions};
+use std::fs::{File, Permissions};
 use std::io::{ErrorKind, Write};
 use std::marker::PhantomData;
-use std::os::unix::fs::{OpenOptionsExt, PermissionsExt};
+use std::os::unix::fs::{MetadataExt, PermissionsExt, fchown};
 use std::path::PathBuf;
 use std::{fs, io};
 
-/// How many names are tried for the new file.
-const MOST_NAMES: u32 = 1000;
-
-/// A file that was made beside a path.
+/// What a path has to have when a file is renamed to it.
 #[derive(Drop)]
-struct Beside {
-    file: File,
-    path: PathBuf,
+pub enum There {
+    /// This open file, by this very path.
+    This(File),
+    /// Nothing, not even a link.
+    Nothing,
+    /// Whatever is there.
+    Anything,
 }
 
 /// A path of the host at which a file is replaced, and no link. Each call of the system is noted with its answer, in a
 /// record that only clauses read. It is honest where these answers are those of the folder that its world describes, so
-/// that nobody else wrote there.
+/// that nobody else wrote there. Where it is dropped, the file beside is removed.
 #[derive(Drop)]
 pub struct FileReplacer<'a, W: FolderWorld> {
     rt: &'a HostRuntime,
-    path: &'a PathBuf,
+    path: PathBuf,
+    there: There,
     /// None where the folder can't be read, so that it can't be synced.
     folder: Option<File>,
-    beside: Option<Beside>,
+    beside: Option<Beside<'a>>,
     failures: u64,
-    /// Which place of the world it is. Only clauses read it.
-    number: u64,
     log: PlaceCalls,
     world: PhantomData<W>,
 }
 
-/// The limit that a line of the kernel's list gives, where it is that of a file's length. No number stands for no
+/// The limit that a line of the kernel's list gives, where it is that of a file's length. No number means no
 /// limit.
 fn limit_in(line: &str) -> Option<u64> {
     let limits = line.strip_prefix("Max file size")?;
     limits.split_whitespace().next()?.parse().ok()
 }
 
-/// How long a file may be that this process writes, as Linux says. A write past it would end the process. Elsewhere no
-/// limit is known.
-pub(crate) fn longest_file(rt: &HostRuntime) -> u64 {
+/// How many bytes long a regular file may be that this process writes, as Linux says: a write past that ends the
+/// process. Elsewhere, and where there is no limit, it is the largest number.
+pub fn longest_file(rt: &HostRuntime) -> u64 {
     match fs::read_to_string(rt, "/proc/self/limits") {
         Ok(limits) => limits.lines().find_map(limit_in).unwrap_or(u64::MAX),
         Err(_) => u64::MAX,
@@ -62,47 +64,12 @@ pub(crate) fn longest_file(rt: &HostRuntime) -> u64 {
 }
 
 /// Opens the folder of a path, to sync it, if its mode lets it be read.
-pub(crate) fn open_folder(rt: &HostRuntime, path: &PathBuf) -> io::Result<Option<File>> {
-    let folder = folder_of(path);
-    let name = if folder.as_str() == "" {
-        "."
-    } else {
-        folder.as_str()
-    };
-    match fs::open(rt, name) {
+fn open_folder(rt: &HostRuntime, path: &PathBuf) -> io::Result<Option<File>> {
+    match fs::open(rt, folder_name(path)) {
         Ok(folder) => Ok(Some(folder)),
         Err(error) if error.kind() == ErrorKind::PermissionDenied => Ok(None),
         Err(error) => Err(error),
     }
-}
-
-/// A path beside a path, by its number among those that are tried for the new file.
-fn path_beside(rt: &HostRuntime, path: &PathBuf, number: u32) -> Result<PathBuf, AllocError> {
-    let name = format!(in rt.alloc(); ".resfork-{number}.new")?;
-    folder_of(path).join(rt.alloc(), &name)
-}
-
-/// Makes an empty file at a path that has none.
-fn make_new(rt: &HostRuntime, path: &PathBuf, mode: u32) -> io::Result<File> {
-    OpenOptions::new()
-        .write(true)
-        .create_new(true)
-        .mode(mode)
-        .open(rt, path)
-}
-
-/// Makes an empty file beside a path, at a name that no file has.
-fn make_beside(rt: &HostRuntime, path: &PathBuf, is_private: bool) -> io::Result<Beside> {
-    let mode = if is_private { 0o600 } else { 0o666 };
-    for number in 0..MOST_NAMES {
-        let path = path_beside(rt, path, number)?;
-        match make_new(rt, &path, mode) {
-            Ok(file) => return Ok(Beside { file, path }),
-            Err(error) if error.kind() == ErrorKind::AlreadyExists => {}
-            Err(error) => return Err(error),
-        }
-    }
-    Err(ErrorKind::AlreadyExists.into())
 }
 
 /// Writes all these bytes to a file, where it may be so long.
@@ -113,29 +80,73 @@ fn write_whole(rt: &HostRuntime, file: &mut File, bytes: &[u8]) -> io::Result<()
     file.write_all(bytes)
 }
 
+/// To whom an open file belongs.
+pub(crate) fn owner_of(file: &File) -> io::Result<Owner> {
+    let found = file.metadata()?;
+    Ok(Owner {
+        user: found.uid(),
+        group: found.gid(),
+    })
+}
+
+/// Gives a file an owner and a group, or else the group alone, and returns those that it has then.
+fn give(file: &File, owner: Owner) -> io::Result<Owner> {
+    if fchown(file, Some(owner.user), Some(owner.group)).is_err() {
+        let _ = fchown(file, None, Some(owner.group));
+    }
+    owner_of(file)
+}
+
+/// What a path has to have, as it is noted.
+fn wanted_of(there: &There) -> Wanted
+    ensures { result ≡ wanted_of there.now }
+{
+    match there {
+        There::This(_) => Wanted::Same,
+        There::Nothing => Wanted::Nothing,
+        There::Anything => Wanted::Anything,
+    }
+}
+
+/// Whether a path has what it has to have.
+fn has(rt: &HostRuntime, path: &PathBuf, there: &There) -> io::Result<bool> {
+    match there {
+        There::This(file) => leads_to(rt, path, file),
+        There::Nothing => is_free(rt, path),
+        There::Anything => Ok(true),
+    }
+}
+
 impl<'a, W: FolderWorld> FileReplacer<'a, W> {
-    /// The place of a path, which is no link, and beside which nothing was made so far. No other place of this world
-    /// may have its number. It is noted whether its folder was opened.
+    /// The place of a path, which is no link, and beside which nothing was made so far. A file is renamed to it only
+    /// while the path has what it has to have. That is noted, and
+    /// whether its folder was opened.
     pub fn new(
         rt: &'a HostRuntime,
-        path: &'a PathBuf,
-        number: u64,
+        path: &PathBuf,
+        there: There,
         log: &mut HeldCalls,
     ) -> io::Result<FileReplacer<'a, W>>
-        ensures number { IfOk result (λ place. place.number ≡ number) }
-        ensures path { IfOk result (λ place. place.path.now ≡ path.now) }
         ensures start { IfOk result (λ place. place.log.events ≡ []) }
-        ensures opens { log.new.events ≡ OpenFolder (is_ok result) ∷ log.old.events }
+        ensures opens { log.new.events ≡ OpenFolder (wanted_of there) (is_ok result) ∷ log.old.events }
     {
-        let folder = open_folder(rt, path);
-        note_folder(log, folder.is_ok());
+        let wanted = wanted_of(&there);
+        let place = FileReplacer::opened(rt, path, there);
+        note_folder(log, wanted, place.is_ok());
+        place
+    }
+
+    /// The place of a path, whose folder is opened.
+    fn opened(rt: &'a HostRuntime, path: &PathBuf, there: There) -> io::Result<FileReplacer<'a, W>>
+        ensures { IfOk result (λ place. place.log.events ≡ []) }
+    {
         Ok(FileReplacer {
             rt,
-            folder: folder?,
-            path,
+            folder: open_folder(rt, path)?,
+            path: PathBuf::from_str(rt.alloc(), path.as_str())?,
+            there,
             beside: None,
             failures: 0,
-            number,
             log: Record::new(),
             world: PhantomData,
         })
@@ -148,14 +159,13 @@ impl<'a, W: FolderWorld> FileReplacer<'a, W> {
         &self.log
     }
 
-    /// The path of the file that was made beside and neither renamed nor removed, if there is one.
+    /// The path of the file that was made beside and neither renamed nor removed, if there is one. It stays there.
     pub fn into_left(self) -> Option<PathBuf>
-        ensures path { result ≡ option_map (λ beside. beside.path) self.entry.beside }
-        ensures some { is_some result ≡ is_some self.entry.beside }
+        ensures { is_some result ≡ leaves self.entry.beside }
     {
         let FileReplacer { beside, .. } = self;
         match beside {
-            Some(beside) => Some(beside.path),
+            Some(beside) => beside.into_path(),
             None => None,
         }
     }
@@ -169,7 +179,6 @@ impl<'a, W: FolderWorld> FileReplacer<'a, W> {
     ) -> io::Result<T>
         ensures cause { Counts self.old.failures self.new.failures result }
         ensures same { result ≡ answer }
-        ensures number { self.new.number ≡ self.old.number }
         ensures beside { self.new.beside ≡ self.old.beside }
         ensures noted { self.new.log.events ≡ (record { call = call; is_done = is_ok answer }, bytes.now) ∷ self.old.log.events }
     {
@@ -183,7 +192,7 @@ impl<'a, W: FolderWorld> FileReplacer<'a, W> {
 }
 
 /// Syncs a folder, if the host offers that.
-pub(crate) fn sync_offered(folder: &Option<File>) -> io::Result<FolderSync>
+fn sync_offered(folder: &Option<File>) -> io::Result<FolderSync>
     ensures { folder.now ≡ None → result ≡ Ok FolderSync.NotOffered }
 {
     let Some(folder) = folder else {
@@ -198,25 +207,17 @@ pub(crate) fn sync_offered(folder: &Option<File>) -> io::Result<FolderSync>
     }
 }
 
-/// Removes a file, if it is there.
-fn remove(rt: &HostRuntime, path: &PathBuf) -> io::Result<()> {
-    match fs::remove_file(rt, path) {
-        Err(error) if error.kind() == ErrorKind::NotFound => Ok(()),
-        answer => answer,
-    }
-}
-
 impl<'a, W: FolderWorld> Replaces for FileReplacer<'a, W> {
     type Error = io::Error;
 
-    ghost seen = { λ place. seen_at (W.held place.number) place.log.events };
+    ghost seen = { λ place. seen_at W.held place.log.events };
 
-    ghost may_leave = { λ place. is_some place.beside };
+    ghost may_leave = { λ place. leaves place.beside };
 
     ghost failures = { λ place. place.failures };
 
     fn create(&mut self, is_private: bool) -> io::Result<()> {
-        let answer = match make_beside(self.rt, self.path, is_private) {
+        let answer = match Beside::make(self.rt, &self.path, is_private) {
             Ok(beside) => {
                 self.beside = Some(beside);
                 Ok(())
@@ -228,15 +229,27 @@ impl<'a, W: FolderWorld> Replaces for FileReplacer<'a, W> {
 
     fn write(&mut self, bytes: &[u8]) -> io::Result<()> {
         let answer = match &mut self.beside {
-            Some(beside) => write_whole(self.rt, &mut beside.file, bytes),
+            Some(beside) => write_whole(self.rt, beside.file(), bytes),
             None => Err(ErrorKind::NotFound.into()),
         };
         self.answered(Call::Write, bytes, answer)
     }
 
+    fn set_owner(&mut self, owner: Owner) -> io::Result<Owner> {
+        let answer = match &mut self.beside {
+            Some(beside) => give(beside.file(), owner),
+            None => Err(ErrorKind::NotFound.into()),
+        };
+        let now = match &answer {
+            Ok(now) => *now,
+            Err(_) => owner,
+        };
+        self.answered(Call::SetOwner(owner, now), &[], answer)
+    }
+
     fn set_mode(&mut self, mode: u32) -> io::Result<()> {
         let answer = match &mut self.beside {
-            Some(beside) => beside.file.set_permissions(Permissions::from_mode(mode)),
+            Some(beside) => beside.file().set_permissions(Permissions::from_mode(mode)),
             None => Err(ErrorKind::NotFound.into()),
         };
         self.answered(Call::SetMode(mode), &[], answer)
@@ -244,15 +257,24 @@ impl<'a, W: FolderWorld> Replaces for FileReplacer<'a, W> {
 
     fn sync(&mut self) -> io::Result<()> {
         let answer = match &mut self.beside {
-            Some(beside) => beside.file.sync_all(),
+            Some(beside) => beside.file().sync_all(),
             None => Err(ErrorKind::NotFound.into()),
         };
         self.answered(Call::Sync, &[], answer)
     }
 
+    fn check(&mut self) -> io::Result<()> {
+        let answer = match has(self.rt, &self.path, &self.there) {
+            Ok(true) => Ok(()),
+            Ok(false) => Err(io::Error::other("it leads to another file")),
+            Err(error) => Err(error),
+        };
+        self.answered(Call::Check, &[], answer)
+    }
+
     fn rename(&mut self) -> io::Result<()> {
-        let answer = match &self.beside {
-            Some(beside) => fs::rename(self.rt, &beside.path, self.path),
+        let answer = match &mut self.beside {
+            Some(beside) => beside.rename(&self.path),
             None => Err(ErrorKind::NotFound.into()),
         };
         if answer.is_ok() {
@@ -271,8 +293,8 @@ impl<'a, W: FolderWorld> Replaces for FileReplacer<'a, W> {
     }
 
     fn remove(&mut self) -> io::Result<()> {
-        let answer = match &self.beside {
-            Some(beside) => remove(self.rt, &beside.path),
+        let answer = match &mut self.beside {
+            Some(beside) => beside.remove(),
             None => Ok(()),
         };
         if answer.is_ok() {

@@ -1,26 +1,37 @@
-//! A file is replaced safely: its path has the old file or the new one, whatever fails, and whenever the machine stops.
+//! A file is replaced safely: its path has the old file or the new one, whatever fails, and whenever the machine stops;
+//! and the new one gives nobody more than the old one did.
 #![tactic(auto)]
 
+mod beside;
 mod calls;
-mod changed;
+mod destination;
 mod held;
 mod host_place;
-mod in_place;
+mod identity;
 mod laws;
 mod links;
 mod mem_place;
+pub mod new_folder;
+mod pair;
 mod place;
+mod prepared;
 mod replacement;
+mod rights;
 mod told;
 mod world;
 
-pub use calls::{Call, HeldCall, HeldCalls, JournalCall, Noted, PlaceCalls};
-pub use changed::{Reached, change};
-pub use held::{Held, Outcome, save, settle};
-pub use host_place::FileReplacer;
+pub use calls::{Call, HeldCall, HeldCalls, Kind, Noted, PlaceCalls, Wanted};
+pub use destination::{Destination, NewPath, OpenStream};
+pub use held::Held;
+pub use host_place::{FileReplacer, There, longest_file};
+pub use identity::Identity;
 pub use laws::crash_laws;
 pub use mem_place::{MemFile, MemPlace};
+pub use new_folder::{FolderCalls, InnerFolder, NewFolder, NoNewFolder};
+pub use pair::{PairFault, put_both as put_both_places};
 pub use place::{Event, FolderSync, PlainFile, Replaces};
-pub use replacement::{Fault, Step, replace};
-pub use told::{Cut, NotReplaced, Stop};
+pub use prepared::{Difference, Losses, NewFile, NotBoth, Outcome, Prepared, Stream, put_both};
+pub use replacement::{Fault, Step, prepare, put, replace};
+pub use rights::{Owner, Rights, mode_for};
+pub use told::{NotReplaced, Stop};
 pub use world::{FolderWorld, UnknownFolder};

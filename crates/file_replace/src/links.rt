@@ -5,7 +5,7 @@ ghost use Rattle.std.specs.Path.{path_buf_bytes, path_bytes, path_parent};
 
 use std::fs::{File, Metadata};
 use std::os::unix::fs::MetadataExt;
-use std::path::{Path, PathBuf};
+use std::path::{AsPath, Path, PathBuf};
 use std::{fs, io};
 
 /// How many links a path may lead over, as Linux counts them.
@@ -21,10 +21,36 @@ pub(crate) fn folder_of<'a>(path: &'a PathBuf) -> Path<'a>
     }
 }
 
+/// The name of a file's folder, as it is opened.
+pub(crate) fn folder_name<'a>(path: &'a PathBuf) -> &'a str {
+    match folder_of(path).as_str() {
+        "" => ".",
+        name => name,
+    }
+}
+
 /// Whether what the system said of a path is true of an open file.
 pub(crate) fn is_of(file: &File, there: &Metadata) -> io::Result<bool> {
     let here = file.metadata()?;
     Ok(there.dev() == here.dev() && there.ino() == here.ino())
+}
+
+/// Whether a path is that of this open file. A link is not followed.
+pub(crate) fn leads_to<P: AsPath>(rt: &HostRuntime, path: P, file: &File) -> io::Result<bool> {
+    match fs::symlink_metadata(rt, path) {
+        Ok(there) => is_of(file, &there),
+        Err(error) if error.kind() == io::ErrorKind::NotFound => Ok(false),
+        Err(error) => Err(error),
+    }
+}
+
+/// Whether a path has nothing, not even a link.
+pub(crate) fn is_free(rt: &HostRuntime, path: &PathBuf) -> io::Result<bool> {
+    match fs::symlink_metadata(rt, path) {
+        Ok(_) => Ok(false),
+        Err(error) if error.kind() == io::ErrorKind::NotFound => Ok(true),
+        Err(error) => Err(error),
+    }
 }
 
 /// Whether a path is a link. There may be no file.

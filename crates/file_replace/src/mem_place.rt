@@ -4,13 +4,14 @@ ghost use Rattle.std.specs.Prelude.{◌≡◌, ◌↔◌, [], ◌∷◌, None, t
 ghost use Rattle.fork_disk.specs.Calls.{next_call};
 ghost use Rattle.fork_disk.specs.Disk.{Counts};
 ghost use Rattle.file_replace.specs.Place.{IsClear};
-ghost use Rattle.file_replace.specs.OnPlace.{answered, told, Does};
-ghost use Rattle.file_replace.specs.Memory.{seen, noted, place_seen, CountsCall, IsTurn};
+ghost use Rattle.file_replace.specs.OnPlace.{answered, now_of, told, Does};
+ghost use Rattle.file_replace.specs.Memory.{seen, with_owner, noted, place_seen, CountsCall, IsTurn};
 ghost use Rattle.file_replace.specs.declared.calls.Call.TheVariants as calls;
 ghost use Rattle.file_replace.specs.declared.place.Event.TheVariants.{Found};
 
 use crate::calls::{self, Call, Noted, PlaceCalls};
 use crate::place::{Event, FolderSync, Replaces};
+use crate::rights::Owner;
 use fork_disk::Record;
 use fork_disk::disk::DiskFault;
 use std::alloc::Global;
@@ -19,6 +20,7 @@ use std::alloc::Global;
 #[derive(Debug, Drop)]
 pub struct MemFile {
     pub bytes: Vec<u8>,
+    pub owner: Owner,
     pub mode: u32,
 }
 
@@ -29,6 +31,8 @@ pub struct MemPlace {
     alloc: Global,
     path: Option<MemFile>,
     beside: Option<MemFile>,
+    /// The user and the group alone that its files may have, if there are such.
+    only: (Option<u32>, Option<u32>),
     turn: u64,
     calls: u64,
     failures: u64,
@@ -41,6 +45,15 @@ fn note(log: &mut Record<Event>, call: Noted, beside: &Option<MemFile>)
     ensures { log.new.events ≡ noted call beside.now log.old.events }
 {
     *log = Record::of_events_beside(log, &call, beside);
+}
+
+/// Gives a file an owner, if there is one.
+fn give(file: &mut Option<MemFile>, owner: Owner)
+    ensures { file.new ≡ with_owner owner file.old }
+{
+    if let Some(file) = file {
+        file.owner = owner;
+    }
 }
 
 /// A record that begins with what a start found.
@@ -64,10 +77,29 @@ impl MemPlace {
             log: begun(&path),
             path,
             beside: None,
+            only: (None, None),
             turn,
             calls: 0,
             failures: 0,
             made: Record::new(),
+        }
+    }
+
+    /// The same, of whose files the user and the group can't be others than these, where they are given.
+    pub fn with_only(self, user: Option<u32>, group: Option<u32>) -> MemPlace
+        ensures { result ≡ record self { only = (user, group) } }
+    {
+        MemPlace {
+            only: (user, group),
+            ..self
+        }
+    }
+
+    /// The owner that a file gets where this one is asked for.
+    fn given(&self, owner: Owner) -> Owner {
+        Owner {
+            user: self.only.0.unwrap_or(owner.user),
+            group: self.only.1.unwrap_or(owner.group),
         }
     }
 
@@ -152,6 +184,7 @@ impl Replaces for MemPlace {
         }
         self.beside = Some(MemFile {
             bytes: Vec::new(self.alloc),
+            owner: Owner { user: 0, group: 0 },
             mode: 0o644,
         });
         self.answer(Call::Create(is_private), &[], Some(()))
@@ -174,6 +207,20 @@ impl Replaces for MemPlace {
             None => false,
         };
         self.answer(Call::Write, bytes, done.then_some(()))
+    }
+
+    fn set_owner(&mut self, owner: Owner) -> Result<Owner, DiskFault>
+        ensures sets { Does (calls.SetOwner owner (now_of owner result)) (is_ok result) [] (place_seen self.old) (place_seen self.new) }
+        ensures cause { Counts self.old.failures self.new.failures result }
+        ensures counted { CountsCall self.old self.new result }
+        ensures kept { IsTurn self.old → (self.new.path ≡ self.old.path) × (self.new.beside ≡ self.old.beside) }
+    {
+        if self.is_turn() {
+            return self.answer(Call::SetOwner(owner, owner), &[], None);
+        }
+        let now = self.given(owner);
+        give(&mut self.beside, now);
+        self.answer(Call::SetOwner(owner, now), &[], Some(now))
     }
 
     fn set_mode(&mut self, mode: u32) -> Result<(), DiskFault>
@@ -199,6 +246,16 @@ impl Replaces for MemPlace {
     {
         let done = !self.is_turn();
         self.answer(Call::Sync, &[], done.then_some(()))
+    }
+
+    fn check(&mut self) -> Result<(), DiskFault>
+        ensures checks { Does calls.Check (is_ok result) [] (place_seen self.old) (place_seen self.new) }
+        ensures cause { Counts self.old.failures self.new.failures result }
+        ensures counted { CountsCall self.old self.new result }
+        ensures kept { IsTurn self.old → (self.new.path ≡ self.old.path) × (self.new.beside ≡ self.old.beside) }
+    {
+        let done = !self.is_turn();
+        self.answer(Call::Check, &[], done.then_some(()))
     }
 
     fn rename(&mut self) -> Result<(), DiskFault>

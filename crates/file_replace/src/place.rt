@@ -4,14 +4,16 @@ ghost use Rattle.std.specs.Prelude.{◌≡◌, ℕ, [], Bool, true, is_ok, IfErr
 ghost use Rattle.fork_disk.specs.Disk.{Counts};
 ghost use Rattle.file_replace.specs.declared.calls.Call.TheVariants as calls;
 ghost use Rattle.file_replace.specs.Place.{Seen, IsClear};
-ghost use Rattle.file_replace.specs.OnPlace.{Does, told};
+ghost use Rattle.file_replace.specs.OnPlace.{Does, now_of, told};
 
+use crate::rights::Owner;
 use std::collections::LinkedList;
 
-/// A file as clauses see it: its bytes, and its mode, who may read, write and run it.
+/// A file as clauses see it: its bytes, to whom it belongs, and its mode, who may read, write and run it.
 #[derive(Drop)]
 pub struct PlainFile {
     pub bytes: LinkedList<u8>,
+    pub owner: Owner,
     pub mode: u32,
 }
 
@@ -76,6 +78,12 @@ pub trait Replaces {
         ensures writes { Does calls.Write (is_ok result) bytes.now (seen self.old) (seen self.new) }
         ensures cause { Counts (failures self.old) (failures self.new) result };
 
+    /// Gives the file beside an owner and a group, as far as the system lets this user, and returns those that it has
+    /// then. Its mode may lose bits by that. Where it fails, that file may be any.
+    fn set_owner(&mut self, owner: Owner) -> Result<Owner, Self::Error>
+        ensures sets { Does (calls.SetOwner owner (now_of owner result)) (is_ok result) [] (seen self.old) (seen self.new) }
+        ensures cause { Counts (failures self.old) (failures self.new) result };
+
     /// Gives the file beside a mode. Where it fails, that file may be any.
     fn set_mode(&mut self, mode: u32) -> Result<(), Self::Error>
         ensures sets { Does (calls.SetMode mode) (is_ok result) [] (seen self.old) (seen self.new) }
@@ -85,6 +93,12 @@ pub trait Replaces {
     /// may have dropped what waited for it: after one, none of that file counts.
     fn sync(&mut self) -> Result<(), Self::Error>
         ensures syncs { Does calls.Sync (is_ok result) [] (seen self.old) (seen self.new) }
+        ensures cause { Counts (failures self.old) (failures self.new) result };
+
+    /// Asks whether the path still leads to what it led to when it was opened, and fails where it doesn't. Nothing
+    /// changes.
+    fn check(&mut self) -> Result<(), Self::Error>
+        ensures checks { Does calls.Check (is_ok result) [] (seen self.old) (seen self.new) }
         ensures cause { Counts (failures self.old) (failures self.new) result };
 
     /// Renames the file beside to the path. The file that was there is gone. Where it fails, all of this was done or

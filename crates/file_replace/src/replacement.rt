@@ -1,11 +1,12 @@
 //! A file is put in the place of another.
 
-ghost use Rattle.std.specs.Prelude.{◌≡◌, true, MatchResult, IfErr};
+ghost use Rattle.std.specs.Prelude.{◌≡◌, true, Err, IfErr};
 ghost use Rattle.fork_disk.specs.Disk.{Counts};
 ghost use Rattle.file_replace.specs.Place.{IfHonest, IsClear};
-ghost use Rattle.file_replace.specs.Replacing.{CallsOf, Fills, HasEmpty, Puts, ReplacesFile, RoseTwice, Steps};
+ghost use Rattle.file_replace.specs.Replacing.{CallsOf, CallsToDress, CallsToFill, CallsToPrepare, CallsToPut, CallsToRename, Dresses, Fills, HasEmpty, Moves, Prepares, Puts, ReplacesFile, RoseTwice};
 
 use crate::place::{FolderSync, Replaces};
+use crate::rights::{Owner, Rights, mode_for};
 
 /// A step of a replacement, in their order.
 #[derive(Clone, Copy, Debug, PartialEq, Eq)]
@@ -14,10 +15,14 @@ pub enum Step {
     Create,
     /// It is written.
     Write,
+    /// It gets the owner and the group of the old one, as far as they may be given.
+    SetOwner,
     /// It gets its mode.
     SetMode,
     /// It is synced.
     Sync,
+    /// The path is asked whether it leads to what it led to before.
+    Check,
     /// It is renamed to the path.
     Rename,
     /// The folder is synced.
@@ -42,74 +47,125 @@ pub struct Fault<E> {
     pub is_left: bool,
 }
 
-/// The answer of a step.
-fn at<T, E>(step: Step, answer: Result<T, E>) -> Result<T, Stopped<E>>
-    ensures { MatchResult result (λ value. answer ≡ Ok value) (λ stopped. (answer ≡ Err stopped.error) × (stopped.step ≡ step)) }
+/// A step failed.
+fn failed<T, E>(step: Step, error: E) -> Result<T, Stopped<E>>
+    ensures { result ≡ Err (record { step = step; error = error }) }
 {
-    match answer {
-        Ok(value) => Ok(value),
-        Err(error) => Err(Stopped { step, error }),
+    Err(Stopped { step, error })
+}
+
+/// Gives the file beside the owner of the old file, as far as the system lets this user, and then the mode that it may
+/// have there. Where there is no old one it keeps the host's own. Returns the owner that was set.
+fn dress<R: Replaces>(
+    place: &mut R,
+    old: Option<Rights>,
+) -> Result<Option<Owner>, Stopped<R::Error>>
+    ensures calls { CallsToDress old result (R.seen place.old).calls (R.seen place.new).calls }
+    ensures dresses { IfHonest (Dresses old result) (R.seen place.old) (R.seen place.new) }
+    ensures cause { Counts (R.failures place.old) (R.failures place.new) result }
+{
+    let Some(rights) = old else {
+        return Ok(None);
+    };
+    let now = match place.set_owner(rights.owner) {
+        Ok(now) => now,
+        Err(error) => return failed(Step::SetOwner, error),
+    };
+    let keeps_user = now.user == rights.owner.user;
+    let keeps_group = now.group == rights.owner.group;
+    let mode = mode_for(rights.mode, keeps_user, keeps_group);
+    match place.set_mode(mode) {
+        Ok(()) => Ok(Some(now)),
+        Err(error) => failed(Step::SetMode, error),
     }
 }
 
-/// Writes the empty file that was made beside the path, and gives it its mode.
+/// Writes the empty file that was made beside the path, gives it its owner and its mode, and syncs it.
 fn fill<R: Replaces>(
     place: &mut R,
     bytes: &[u8],
-    mode: Option<u32>,
-) -> Result<(), Stopped<R::Error>>
+    old: Option<Rights>,
+) -> Result<Option<Owner>, Stopped<R::Error>>
     requires { HasEmpty (R.seen place.old) }
-    ensures calls { Steps Step.Sync mode bytes.now result (R.seen place.old) (R.seen place.new) }
-    ensures fills { IfHonest (Fills mode bytes.now result) (R.seen place.old) (R.seen place.new) }
+    ensures calls { CallsToFill old bytes.now result (R.seen place.old).calls (R.seen place.new).calls }
+    ensures fills { IfHonest (Fills old bytes.now result) (R.seen place.old) (R.seen place.new) }
     ensures cause { Counts (R.failures place.old) (R.failures place.new) result }
 {
-    at(Step::Write, place.write(bytes))?;
-    match mode {
-        Some(mode) => at(Step::SetMode, place.set_mode(mode)),
-        None => Ok(()),
+    if let Err(error) = place.write(bytes) {
+        return failed(Step::Write, error);
+    }
+    let owner = match dress(place, old) {
+        Ok(owner) => owner,
+        Err(stopped) => return Err(stopped),
+    };
+    // before the path leads to it
+    match place.sync() {
+        Ok(()) => Ok(owner),
+        Err(error) => failed(Step::Sync, error),
     }
 }
 
-/// Fills the empty file that was made beside the path, syncs it, and renames it to the path.
-fn put<R: Replaces>(place: &mut R, bytes: &[u8], mode: Option<u32>) -> Result<(), Stopped<R::Error>>
-    requires { HasEmpty (R.seen place.old) }
-    ensures calls { Steps Step.SyncFolder mode bytes.now result (R.seen place.old) (R.seen place.new) }
-    ensures puts { IfHonest (Puts mode bytes.now result) (R.seen place.old) (R.seen place.new) }
-    ensures cause { Counts (R.failures place.old) (R.failures place.new) result }
-{
-    fill(place, bytes, mode)?;
-    at(Step::Sync, place.sync())?; // before the path leads to it
-    at(Step::Rename, place.rename())
-}
-
-/// Puts a file of these bytes, and of this mode or the host's own, in the place of the one at the path, or at a path
-/// that has none. It is made beside the path, written, synced and renamed. Where that fails before the rename, the old
-/// file is there, untouched.
-pub fn replace<R: Replaces>(
+/// Makes a file of these bytes beside the path, and syncs it. In the place of an old file, of which these are the
+/// rights, it gets its owner and its mode, as far as it may have them, and is private until then. Returns the owner
+/// that it has. Where this fails, no file is left beside, or that is said.
+pub fn prepare<R: Replaces>(
     place: &mut R,
     bytes: &[u8],
-    mode: Option<u32>,
-) -> Result<FolderSync, Fault<R::Error>>
+    old: Option<Rights>,
+) -> Result<Option<Owner>, Fault<R::Error>>
     requires { IsClear (R.seen place.old) }
-    ensures calls { CallsOf mode bytes.now result (R.seen place.old).calls (R.seen place.new).calls }
-    ensures replaces { IfHonest (ReplacesFile mode bytes.now result) (R.seen place.old) (R.seen place.new) }
+    ensures calls { CallsToPrepare old bytes.now result (R.seen place.old).calls (R.seen place.new).calls }
+    ensures prepares { IfHonest (Prepares old bytes.now result) (R.seen place.old) (R.seen place.new) }
     ensures cause { Counts (R.failures place.old) (R.failures place.new) result }
     ensures beside { IfErr result (λ fault. fault.is_left ≡ true → R.may_leave place.new ≡ true) }
     ensures left { IfErr result (λ fault. fault.is_left ≡ true → RoseTwice (R.failures place.old) (R.failures place.new)) }
 {
-    if let Err(error) = place.create(mode.is_some()) {
+    if let Err(error) = place.create(old.is_some()) {
         return Err(Fault {
             step: Step::Create,
             error,
             is_left: false,
         });
     }
-    if let Err(Stopped { step, error }) = put(place, bytes, mode) {
-        let is_left = place.remove().is_err();
+    match fill(place, bytes, old) {
+        Ok(owner) => Ok(owner),
+        Err(Stopped { step, error }) => Err(Fault {
+            step,
+            error,
+            is_left: place.remove().is_err(),
+        }),
+    }
+}
+
+/// Renames the file beside to the path, if that leads to what it led to before.
+fn rename_checked<R: Replaces>(place: &mut R) -> Result<(), Stopped<R::Error>>
+    ensures calls { CallsToRename result (R.seen place.old).calls (R.seen place.new).calls }
+    ensures moves { IfHonest (Moves result) (R.seen place.old) (R.seen place.new) }
+    ensures cause { Counts (R.failures place.old) (R.failures place.new) result }
+{
+    if let Err(error) = place.check() {
+        return failed(Step::Check, error);
+    }
+    match place.rename() {
+        Ok(()) => Ok(()),
+        Err(error) => failed(Step::Rename, error),
+    }
+}
+
+/// Puts the file that was prepared beside the path in the place of the one at the path, and syncs the folder. Where
+/// that fails before the rename, the old file is there, untouched, and the new one is removed.
+pub fn put<R: Replaces>(place: &mut R) -> Result<FolderSync, Fault<R::Error>>
+    ensures calls { CallsToPut result (R.seen place.old).calls (R.seen place.new).calls }
+    ensures puts { IfHonest (Puts result) (R.seen place.old) (R.seen place.new) }
+    ensures cause { Counts (R.failures place.old) (R.failures place.new) result }
+    ensures beside { IfErr result (λ fault. fault.is_left ≡ true → R.may_leave place.new ≡ true) }
+    ensures left { IfErr result (λ fault. fault.is_left ≡ true → RoseTwice (R.failures place.old) (R.failures place.new)) }
+{
+    if let Err(Stopped { step, error }) = rename_checked(place) {
         return Err(Fault {
             step,
             error,
-            is_left,
+            is_left: place.remove().is_err(),
         });
     }
     match place.sync_folder() {
@@ -119,5 +175,26 @@ pub fn replace<R: Replaces>(
             error,
             is_left: false,
         }),
+    }
+}
+
+/// Puts a file of these bytes in the place of the one at the path, of which these are the rights, or at a path that has
+/// none. It is made beside the path, written, synced and renamed. Where that fails before the rename, the old file is
+/// there, untouched.
+pub fn replace<R: Replaces>(
+    place: &mut R,
+    bytes: &[u8],
+    old: Option<Rights>,
+) -> Result<FolderSync, Fault<R::Error>>
+    requires { IsClear (R.seen place.old) }
+    ensures calls { CallsOf old bytes.now result (R.seen place.old).calls (R.seen place.new).calls }
+    ensures replaces { IfHonest (ReplacesFile old bytes.now result) (R.seen place.old) (R.seen place.new) }
+    ensures cause { Counts (R.failures place.old) (R.failures place.new) result }
+    ensures beside { IfErr result (λ fault. fault.is_left ≡ true → R.may_leave place.new ≡ true) }
+    ensures left { IfErr result (λ fault. fault.is_left ≡ true → RoseTwice (R.failures place.old) (R.failures place.new)) }
+{
+    match prepare(place, bytes, old) {
+        Ok(_) => put(place),
+        Err(fault) => Err(fault),
     }
 }

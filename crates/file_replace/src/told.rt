@@ -3,8 +3,8 @@
 ghost use Rattle.std.specs.Prelude.{◌≡◌, None};
 ghost use Rattle.file_replace.specs.declared.told.NotReplaced.TheVariants.{HostFull};
 
-use crate::changed::Reached;
 use crate::replacement::Step;
+use path_text::FileName;
 use std::alloc::AllocError;
 use std::error::Error;
 use std::fmt::{Display, Formatter, Write};
@@ -31,75 +31,16 @@ pub enum NotReplaced {
     NotAFile,
     /// Another program holds its lock.
     InUse,
-    /// Another program replaced it between its opening and its lock.
+    /// Another program put something else at its path while it was opened.
     Moved,
     /// A step of the replacement failed.
     Stopped(Stop),
     /// A step of writing the backup failed: the file wasn't changed.
     NoBackup { name: PathBuf, stop: Stop },
-    /// It can't be renamed over, and a change of it in its place was cut short.
-    InPlace(Cut),
-    /// An earlier change of it was cut short, and its journal can't be used.
-    Unsettled { journal: PathBuf, error: io::Error },
-    /// There is no such file, but this journal of it.
-    Orphan(PathBuf),
+    /// It is no regular file, and the bytes couldn't be written to it as a whole.
+    Stream(io::Error),
     /// The host has no memory. Nothing was written.
     HostFull,
-}
-
-/// A change in a file's place that something cut short.
-#[derive(Debug, Drop)]
-pub struct Cut {
-    /// Which bytes the file has.
-    pub reached: Reached,
-    /// Why it was cut short.
-    pub error: io::Error,
-    /// The journal, where it is there still.
-    pub left: Option<PathBuf>,
-}
-
-/// What is said before and after the error that cut a change short.
-fn words_of_change(reached: Reached) -> (&'static str, &'static str) {
-    match reached {
-        Reached::Old => (
-            "not changed: it can't be renamed over, nor changed under a journal beside it: ",
-            "; name another file with -o",
-        ),
-        Reached::New => ("changed, but its journal can't be removed for good: ", ""),
-        Reached::Either => (
-            "its change was cut short: ",
-            "; it has the old bytes or the new ones once resfork reads it again",
-        ),
-    }
-}
-
-impl Cut {
-    /// A change that didn't begin.
-    pub(crate) fn before(error: io::Error) -> Cut
-        ensures reached { result.reached ≡ Reached.Old }
-        ensures left { result.left ≡ None }
-    {
-        Cut {
-            reached: Reached::Old,
-            error,
-            left: None,
-        }
-    }
-
-    /// What failed, why, and what to do.
-    fn put<W: Write>(&self, f: &mut Formatter<W>) -> fmt::Result {
-        let (before, following) = words_of_change(self.reached);
-        put_between(f, before, &self.error, following)?;
-        match &self.left {
-            Some(path) => put_between(
-                f,
-                "; its journal ",
-                &path.as_str(),
-                " was left, and the next resfork command on it removes that",
-            ),
-            None => Ok(()),
-        }
-    }
 }
 
 /// A step that failed.
@@ -120,7 +61,10 @@ fn words_of_step(step: Step) -> (&'static str, &'static str) {
             "no new file can be made beside it: ",
             "; name another file with -o",
         ),
-        Step::Write | Step::SetMode | Step::Sync => ("the new file can't be written: ", ""),
+        Step::Write | Step::SetOwner | Step::SetMode | Step::Sync => {
+            ("the new file can't be written: ", "")
+        }
+        Step::Check => ("another program has just replaced it: ", "; try again"),
         Step::Rename => (
             "the new file can't be renamed to it: ",
             "; name another file with -o",
@@ -132,15 +76,25 @@ fn words_of_step(step: Step) -> (&'static str, &'static str) {
     }
 }
 
+/// Writes which file was left, where one was.
+pub(crate) fn put_left<W: Write>(left: &Option<PathBuf>, f: &mut Formatter<W>) -> fmt::Result {
+    match left {
+        Some(path) => put_between(
+            f,
+            "; ",
+            &FileName(path.as_str()),
+            " was left, and can be removed",
+        ),
+        None => Ok(()),
+    }
+}
+
 impl Stop {
     /// What failed, why, and what to do.
     fn put<W: Write>(&self, f: &mut Formatter<W>) -> fmt::Result {
         let (before, following) = words_of_step(self.step);
         put_between(f, before, &self.error, following)?;
-        match &self.left {
-            Some(path) => put_between(f, "; ", &path.as_str(), " was left, and can be removed"),
-            None => Ok(()),
-        }
+        put_left(&self.left, f)
     }
 
     /// The same of the file that was to be replaced, and whether it is changed.
@@ -154,24 +108,14 @@ impl Stop {
 
     /// The same of its backup, which was to have this name.
     fn put_of_backup<W: Write>(&self, name: &PathBuf, f: &mut Formatter<W>) -> fmt::Result {
-        put_between(f, "not changed: at its backup ", &name.as_str(), ", ")?;
+        put_between(
+            f,
+            "not changed: at its backup ",
+            &FileName(name.as_str()),
+            ", ",
+        )?;
         self.put(f)
     }
-}
-
-/// Writes that a file isn't settled by this journal, and why.
-fn put_unsettled<W: Write>(
-    journal: &PathBuf,
-    error: &io::Error,
-    f: &mut Formatter<W>,
-) -> fmt::Result {
-    put_between(
-        f,
-        "a change of it was cut short; its journal ",
-        &journal.as_str(),
-        " has to be used first, by a resfork command of one who may write both: ",
-    )?;
-    error.fmt(f)
 }
 
 impl Display for NotReplaced {
@@ -194,14 +138,7 @@ impl Display for NotReplaced {
             }
             NotReplaced::Stopped(stop) => stop.put_of_file(f),
             NotReplaced::NoBackup { name, stop } => stop.put_of_backup(name, f),
-            NotReplaced::InPlace(cut) => cut.put(f),
-            NotReplaced::Unsettled { journal, error } => put_unsettled(journal, error, f),
-            NotReplaced::Orphan(journal) => put_between(
-                f,
-                "there is no such file, but a journal of it, ",
-                &journal.as_str(),
-                ": put the file back, or remove the journal",
-            ),
+            NotReplaced::Stream(error) => { put_between(f, "not written as a whole: ", error, "") }
             NotReplaced::HostFull => f.write_str("not changed: the host has no memory"),
         }
     }

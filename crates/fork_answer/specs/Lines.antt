@@ -57,10 +57,15 @@ lost_line letters lost =
 abbrev pub run_line : Span → List ℕ
 run_line span = codes "-         - " ++ (styled_decimal (format_spec 32 3 0 8 (2 ^ 64 - 1)) span.length ++ (codes " at " ++ (place_text span.start ++ 10 ∷ [])))
 
+-- the line that there are more resources than the map has room for
+abbrev pub more_line : List ℕ
+more_line = codes "-         -        ? more can't be read: the map has no room for so many\n"
+
 -- the line of each item
 abbrev pub item_line : Letters → List ℕ → Item → List ℕ
 item_line letters fork (item.Row found) = found_line letters fork found
 item_line letters fork (item.Lost lost) = lost_line letters lost
+item_line letters fork item.More = more_line
 item_line letters fork (item.Run span) = run_line span
 
 -- the lines of so many items

@@ -13,6 +13,7 @@ use Rattle.fork_salvage.specs.Laws.{row_of}
 abbrev pub found_in : Item → Option FoundRow
 found_in (item.Row found) = Some found
 found_in (item.Lost lost) = None
+found_in item.More = None
 found_in (item.Run span) = None
 
 -- the resources that can be read, in the order of the map

@@ -41,6 +41,7 @@ extent_of Names row = name_extent row.name row.reference
 abbrev pub extent_in : Pool → Item → List Extent
 extent_in pool (item.Row row) = extent_of pool row
 extent_in pool (item.Lost lost) = []
+extent_in pool item.More = []
 extent_in pool (item.Run span) = []
 
 -- the bytes that the resources of a fork have, of as many as a fork may have

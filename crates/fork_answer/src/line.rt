@@ -87,7 +87,8 @@ impl fmt::Display for NameLine {
     }
 }
 
-/// The line of an item: as a list shows it, or what of it can't be read, or a run of bytes without type and id.
+/// The line of an item: as a list shows it, or what of it can't be read, or that there are more, or a run of bytes
+/// without type and id.
 #[derive(Clone, Copy)]
 struct ItemLine<'a> {
     letters: Letters,
@@ -122,6 +123,12 @@ impl fmt::Display for ItemLine<'_> {
                     "{kind} {id}        ? can't be read: {loss}; its reference is at {reference}"
                 )
             }
+            Item::More => {
+                writeln!(
+                    f,
+                    "-         -        ? more can't be read: the map has no room for so many"
+                )
+            }
             Item::Run(Span { start, length }) => {
                 writeln!(
                     f,
@@ -133,8 +140,9 @@ impl fmt::Display for ItemLine<'_> {
     }
 }
 
-/// A line for each resource of a fork, in the order of its map: as a list shows it, or what of it can't be read. Where
-/// no type is found in a damaged fork, the runs of bytes in its data. There are so many lines at most.
+/// A line for each resource of a fork, in the order of its map: as a list shows it, or what of it can't be read; and
+/// one where there are more than the map has room for. Where no type is found in a damaged fork, the runs of bytes in
+/// its data. There are so many lines at most.
 pub fn salvage_listing(
     alloc: Global,
     letters: Letters,

@@ -130,7 +130,7 @@ fn extent_in(pool: Pool, item: &Item) -> Option<Extent>
 {
     match item {
         Item::Row(row) => extent_of(pool, row),
-        Item::Lost(_) | Item::Run(_) => None,
+        Item::Lost(_) | Item::More | Item::Run(_) => None,
     }
 }
 

@@ -7,6 +7,7 @@ mod Front
 mod ReadEntries
 mod ReadData
 mod ReadRows
+pub mod Room
 mod ReadAgain
 pub mod Grouped
 mod ReadWhole

@@ -10,10 +10,11 @@ use Rattle.fork_bytes.specs.declared.table.Table.{Table}
 use Rattle.fork_bytes.specs.declared.fault.Condition.{Condition}
 use Rattle.fork_bytes.specs.declared.fault.Condition.TheVariants.{Parts, Types, References, RowCount, Names, Places, ByteCount}
 use Rattle.fork_bytes.specs.Rows.{Row, MapRow}
-use Rattle.fork_bytes.specs.Fork.{Reference, TypeEntry, macheap_limits, places, name_place, datum_length, header_of, map_of, attributes_of, type_list, entry_at, entries_of, references_in, references_of, map_row, map_rows, row_with, table_of, HasPartsWithin, HasTypes, HasReferences, HasFewRowsWithin, HasNames, HasData, HasFewBytesWithin, HoldsWithin}
+use Rattle.fork_bytes.specs.Fork.{Reference, TypeEntry, macheap_limits, rows_by, places, name_place, datum_length, header_of, map_of, attributes_of, type_list, entry_at, entries_of, references_in, references_of, map_row, map_rows, row_with, table_of, HasPartsWithin, HasTypes, HasReferences, HasFewRowsWithin, HasNames, HasData, HasFewBytesWithin, HoldsWithin}
 use Rattle.fork_bytes.specs.Written.{types_of, counted_before, count_bytes, entries_text, types_text, first_references, names_offset, data_text, names_text, references_text, header_for, map_header_text, map_text, written, FitsWithin, IsSmallWithin}
 use Rattle.fork_bytes.specs.Laws.{IsRow, IsTable, IsReadAgain, IsReadAgainWithin, StandsForOne}
 use Rattle.fork_bytes.proofs.Lengths.{AreFour, length-entries, length-references, length-written}
+use Rattle.fork_bytes.proofs.Room.{few_by}
 use Rattle.fork_bytes.proofs.Front.{IsSmall, header_is, extra_is, data_is, map_is, length-map, attributes_are, types_stand, names_stand, types_are}
 use Rattle.fork_bytes.proofs.ReadEntries.{entries_for, total-types_of, entries_are, references_for, references_are}
 use Rattle.fork_bytes.proofs.ReadData.{rows_for, rows_with_data, data_within, data_count}
@@ -198,9 +199,12 @@ references_hold limits table w =
 
 rows_hold : (limits : Limits) (table : Table) → IsWritten limits table → HasFewRowsWithin limits (map_text table)
 rows_hold limits table w =
+    let rows = table.rows in let size = length (map_text table) in
     let read = ap (λ (rs : List Reference). length rs) (references_read limits table w) in
-    let each = length-references_for (28 + first_references table.rows) table.rows in
-    let few_rows = w.fits.few_rows in omega arith
+    let each = length-references_for (28 + first_references rows) rows in
+    let long = length-map table w.parts in
+    let P : ℕ → Type 0 = λ n. n ≤ rows_by limits.lists limits.rows size in
+    subst P (sym (read ∙ each)) (few_by limits.lists limits.rows (length rows) size w.fits.few_rows (omega arith))
 
 names_hold : (limits : Limits) (table : Table) → IsWritten limits table → HasNames (map_text table)
 names_hold limits table w =

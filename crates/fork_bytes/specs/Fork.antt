@@ -1,5 +1,5 @@
 -- Which bytes are a resource fork, and which table they stand for.
-use Rattle.std.specs.Prelude.{◌≡◌, ◌≢◌, ℕ, zero, suc, ◌+◌, ◌*◌, ◌%◌, ◌<◌, ◌≤◌, ◌==◌, if◌then◌else◌, List, [], ◌∷◌, ◌++◌, length, map, take, drop, replicate, slice_index, sum_by, Option, None, Some, IfSome, AllPairs, ⊤}
+use Rattle.std.specs.Prelude.{◌≡◌, ◌≢◌, ℕ, zero, suc, ◌+◌, ◌*◌, ◌/◌, ◌%◌, min, ◌<◌, ◌≤◌, ◌==◌, if◌then◌else◌, List, [], ◌∷◌, ◌++◌, length, map, take, drop, replicate, slice_index, sum_by, Option, None, Some, IfSome, AllPairs, ⊤}
 use Rattle.std.specs.List.{flat_map, AllByRecursion}
 use Rattle.std.specs.Int.{w16, cast_signed}
 use Rattle.byteorder.specs.Endian.{big_number}
@@ -9,6 +9,8 @@ use Rattle.fork_bytes.specs.declared.fault.ForkFault.{ForkFault}
 use Rattle.fork_bytes.specs.declared.fault.ForkFault.TheVariants.{EndOfFile, BadMap, HostFull}
 use Rattle.fork_bytes.specs.declared.layout.Header.{Header}
 use Rattle.fork_bytes.specs.declared.layout.Limits.{Limits}
+use Rattle.fork_bytes.specs.declared.layout.Lists.{Lists}
+use Rattle.fork_bytes.specs.declared.layout.Lists.TheVariants.{MayOverlap, HaveRoom}
 use Rattle.fork_bytes.specs.Rows.{Row, MapRow}
 use Rattle.fork_bytes.specs.declared.table.Table.{Table}
 
@@ -149,12 +151,20 @@ max_rows = 8192
 
 -- how much is read of a fork, by macheap
 abbrev pub macheap_limits : Limits
-macheap_limits = record { fork = max_fork; rows = max_rows; bytes = max_fork }
+macheap_limits = record { fork = max_fork; rows = max_rows; lists = MayOverlap; bytes = max_fork }
 
 -- how much the format can say: a place in the fork has 4 bytes, and one in the data 3; so many bytes are the lengths of
--- so many rows
+-- so many rows; each row has 12 bytes of the map
 abbrev pub format_limits : Limits
-format_limits = record { fork = 4294967295; rows = 4194304; bytes = 16777216 }
+format_limits = record { fork = 4294967295; rows = 4194304; lists = HaveRoom; bytes = 16777216 }
+
+-- the most rows of a map of so many bytes, of which there are at most so many in any map
+abbrev pub rows_by : Lists → ℕ → ℕ → ℕ
+rows_by MayOverlap rows map_length = rows
+rows_by HaveRoom rows map_length = min rows (map_length / 12)
+
+abbrev pub most_rows : Limits → ℕ → ℕ
+most_rows limits map_length = rows_by limits.lists limits.rows map_length
 
 -- The parts lie within a fork of so many bytes.
 pub record HasPartsWithin (limits : Limits) (fork_length : ℕ) (header : Header) : Type 0 where
@@ -175,7 +185,7 @@ HasReferences resource_map = AllByRecursion (λ (r : Reference). r.place + 12 �
 
 -- There are not too many rows.
 abbrev pub HasFewRowsWithin : Limits → List ℕ → Type 0
-HasFewRowsWithin limits resource_map = length (references_of resource_map) ≤ limits.rows
+HasFewRowsWithin limits resource_map = length (references_of resource_map) ≤ most_rows limits (length resource_map)
 
 -- Each name lies within the map.
 abbrev pub HasNames : List ℕ → Type 0

@@ -14,7 +14,7 @@ pub enum Condition {
     /// Each reference lies within the map.
     #[error("a list of references ends outside the map")]
     References,
-    /// There are not too many references.
+    /// There are not too many references: for a map of this length, where `Limits` say so.
     #[error("there are too many resources")]
     RowCount,
     /// Each name lies within the map.

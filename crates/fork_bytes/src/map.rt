@@ -8,10 +8,10 @@ ghost use Rattle.fork_bytes.specs.Reading.{FaultsAt, HasName, IsMapWithin, IsTyp
 
 use crate::fault::{Condition, ForkFault};
 use crate::grow::push;
-use crate::layout::{Limits, MapRow};
+use crate::layout::{Limits, MapRow, REFERENCE_LENGTH};
 use crate::name::{read_name, share_names};
 use crate::number::{read_signed, read_three, read_two};
-use crate::types::{REFERENCE_LENGTH, TypeEntry, TypeList, check_references, entry, read_types};
+use crate::types::{TypeEntry, TypeList, check_references, entry, read_types};
 use bitflags::Flags;
 use mac_base::resource::{ResAttrs, ResType};
 use std::alloc::Global;

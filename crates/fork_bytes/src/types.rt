@@ -8,7 +8,7 @@ ghost use Rattle.fork_bytes.specs.Fork.{count_at, bytes_at, type_list, type_coun
 ghost use Rattle.fork_bytes.specs.Reading.{IsTypeList, FaultsAt, RefusesMapWithin, entry_of, kinds_of};
 
 use crate::fault::{Condition, ForkFault};
-use crate::layout::Limits;
+use crate::layout::{Limits, REFERENCE_LENGTH};
 use crate::number::read_two;
 use mac_base::error::HostFull;
 use mac_base::resource::ResType;
@@ -17,9 +17,6 @@ use std::collections::BTreeSet;
 
 /// How many bytes an entry of the type list has.
 const ENTRY_LENGTH: usize = 8;
-
-/// How many bytes a reference has.
-pub(crate) const REFERENCE_LENGTH: usize = 12;
 
 /// The type list of a map: where its count is, and how many entries follow it.
 #[derive(Clone, Copy)]
@@ -191,7 +188,9 @@ pub(crate) fn check_references(
 {
     match count_references(map, list) {
         None => Err(ForkFault::BadMap(Condition::References)),
-        Some(count) if count > limits.rows as usize => Err(ForkFault::BadMap(Condition::RowCount)),
+        Some(count) if count > limits.most_rows(map.len()) => {
+            Err(ForkFault::BadMap(Condition::RowCount))
+        }
         Some(count) => Ok(count),
     }
 }

@@ -7,3 +7,4 @@ pub mod Words
 pub mod TypeLines
 pub mod Placed
 pub mod Naming
+pub mod EachCounted

@@ -8,3 +8,4 @@ pub mod Kind
 pub mod Listing
 pub mod Types
 pub mod Names
+pub mod Counts

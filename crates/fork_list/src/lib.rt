@@ -5,6 +5,7 @@
 #![tactic(auto)]
 
 mod attribute;
+mod counts;
 pub mod find;
 mod kind;
 pub mod letters;

@@ -41,14 +41,20 @@ abbrev pub is_run : Item → Bool
 is_run (item.Run span) = true
 is_run other = false
 
--- so many resources can be read of so many; None where there are none, or too many, or only runs of bytes
-abbrev pub tally_with : ℕ → ℕ → Bool → Option Tally
-tally_with readable found has_runs =
-    if found == 0 || nat_le MOST_FOUND found || has_runs then None else Some (record { readable = readable; found = found })
+-- more resources than the map has room for
+abbrev pub is_more : Item → Bool
+is_more item.More = true
+is_more other = false
+
+-- so many resources can be read of so many, or of so many at least; None where there are none, or too many, or only
+-- runs of bytes
+abbrev pub tally_with : ℕ → ℕ → Bool → Bool → Option Tally
+tally_with readable found has_runs more =
+    if found == 0 || nat_le MOST_FOUND found || has_runs then None else Some (record { readable = readable; found = found; more = more })
 
 -- how many resources of a fork can be read, of how many that are found
 abbrev pub tally_of : List ℕ → Option Tally
-tally_of fork = tally_with (length (readable fork)) (length (items fork)) (list_any is_run (items fork))
+tally_of fork = tally_with (length (readable fork)) (length (items fork)) (list_any is_run (items fork)) (list_any is_more (items fork))
 
 -- some resource can be read
 abbrev pub is_readable : Option Tally → Bool

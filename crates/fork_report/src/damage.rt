@@ -1,10 +1,10 @@
 //! What is reported of a damaged fork.
 
-ghost use Rattle.std.specs.Prelude.{◌≡◌, ◌≢◌, ℕ, List, [], ◌∷◌, filter_map, length, IfNone, IfSome, Some, is_some};
+ghost use Rattle.std.specs.Prelude.{◌≡◌, ◌≢◌, ◌||◌, ℕ, List, [], ◌∷◌, filter_map, length, IfNone, IfSome, Some, is_some};
 ghost use Rattle.fork_bytes.specs.Fork.{IsForkWithin, format_limits};
 ghost use Rattle.fork_answer.specs.Salvaged.{found_in};
 ghost use Rattle.fork_answer.specs.Source.{IsForkIn};
-ghost use Rattle.fork_report.specs.Damage.{IsDamageOf, holder_of, holder_text, is_of_fork, is_readable, is_run, tally_of};
+ghost use Rattle.fork_report.specs.Damage.{IsDamageOf, holder_of, holder_text, is_more, is_of_fork, is_readable, is_run, tally_of};
 
 use fork_answer::{name_of_container, resource_fork};
 use fork_bytes::fault::{Condition, ForkFault};
@@ -30,6 +30,8 @@ pub enum Holder {
 pub struct Tally {
     pub readable: usize,
     pub found: usize,
+    /// Whether more are listed than the map has room for, so that they are at least so many.
+    pub more: bool,
 }
 
 /// The first fault of a fork, and how much can still be read of it.
@@ -48,6 +50,18 @@ impl Tally {
         ensures { result ≡ is_readable (Some self) }
     {
         self.readable > 0
+    }
+}
+
+impl fmt::Display for Tally {
+    fn fmt<W: fmt::Write>(&self, f: &mut fmt::Formatter<W>) -> fmt::Result {
+        let Tally {
+            readable,
+            found,
+            more,
+        } = *self;
+        let least = if more { "at least " } else { "" };
+        write!(f, "{readable} of {least}{found} resources")
     }
 }
 
@@ -128,9 +142,7 @@ impl fmt::Display for Damage {
             write!(f, "\n  (places are those in the resource fork of {name})")?;
         }
         match self.tally {
-            Some(Tally { readable, found }) => {
-                write!(f, "\n  {readable} of {found} resources can be read")
-            }
+            Some(tally) => write!(f, "\n  {tally} can be read"),
             None => Ok(()),
         }
     }
@@ -143,13 +155,20 @@ fn is_run(item: &Item) -> bool
     matches!(item, Item::Run(_))
 }
 
+/// Whether it was said before, or this says, that there are more resources than the map has room for.
+fn says_more(before: bool, item: &Item) -> bool
+    ensures { result ≡ (before || is_more item.now) }
+{
+    before || matches!(item, Item::More)
+}
+
 /// How many resources of these can be read: one, or none.
 fn readable_in(item: &Item) -> usize
     ensures { result ≡ length (filter_map found_in (item.now ∷ [])) }
 {
     match item {
         Item::Row(_) => 1,
-        Item::Lost(_) | Item::Run(_) => 0,
+        Item::Lost(_) | Item::More | Item::Run(_) => 0,
     }
 }
 
@@ -160,18 +179,24 @@ pub fn tally_of(fork: &[u8]) -> Option<Tally>
 {
     let mut salvage = Salvage::new(fork);
     let mut readable = 0usize;
+    let mut more = false;
     for found in 0..MOST_FOUND {
         let Some(item) = salvage.next() else {
             return if found == 0 {
                 None
             } else {
-                Some(Tally { readable, found })
+                Some(Tally {
+                    readable,
+                    found,
+                    more,
+                })
             };
         };
         if is_run(&item) {
             return None;
         }
         readable = readable.saturating_add(readable_in(&item));
+        more = says_more(more, &item);
     }
     None
 }

@@ -1,10 +1,9 @@
 -- Faults, one entry or one reference further.
 use Rattle.std.proofs.lemmas.Bool.Decides.{nat_tests}
-use Rattle.std.proofs.Common.{◌≡◌, ℕ, zero, suc, ◌+◌, ◌-◌, ◌<◌, ◌≤◌, Bool, true, false, nat_lt, if◌then◌else◌, List, [], ◌∷◌, ◌++◌, length, take, bytes_eq, Option, refl, subst, sym, ap, ◌∙◌, append_assoc, arith}
+use Rattle.std.proofs.Common.{◌≡◌, ℕ, suc, ◌+◌, ◌-◌, ◌<◌, ◌≤◌, Bool, true, false, nat_lt, if◌then◌else◌, List, [], ◌∷◌, ◌++◌, length, take, bytes_eq, Option, refl, subst, sym, ap, ◌∙◌, append_assoc, arith}
 use Rattle.std.specs.Prelude.{option_to_list}
 use Rattle.std.specs.List.{flat_map}
 use Rattle.std.proofs.lemmas.Bool.{cond-true, cond-false}
-use Rattle.std.proofs.lemmas.List.{append-nil}
 use Rattle.fork_bytes.specs.Fork.{places, Reference, format_limits}
 use Rattle.fork_bytes.proofs.Lists as lists
 use Rattle.fork_salvage.specs.declared.entry.Types.{Types}
@@ -66,7 +65,7 @@ not_refused fork (fault.TypeCount gap) refused is = refused.1.fails (is.holds co
 not_refused fork (fault.TypeList gap) refused is = refused.1.fails (is.holds condition.Types)
 not_refused fork (fault.SameType same) refused is = refused.1.fails (is.holds condition.Types)
 not_refused fork (fault.References list) refused is = refused.1.fails (is.holds condition.References)
-not_refused fork (fault.RowCount count) refused is = refused.1.fails (is.holds condition.RowCount)
+not_refused fork (fault.RowCount excess) refused is = refused.1.fails (is.holds condition.RowCount)
 not_refused fork (fault.Name row) refused is = refused.1.fails (is.holds condition.Names)
 not_refused fork (fault.Length row) refused is = refused.1.fails (is.holds condition.Places)
 not_refused fork (fault.Bytes row) refused is = refused.1.fails (is.holds condition.Places)

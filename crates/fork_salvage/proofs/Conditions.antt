@@ -9,7 +9,7 @@ use Rattle.fork_bytes.specs.declared.fault.Condition.TheVariants.{Parts, Types, 
 use Rattle.fork_bytes.specs.declared.fault.ForkFault.{ForkFault}
 use Rattle.fork_bytes.specs.declared.fault.ForkFault.TheVariants.{EndOfFile, BadMap, HostFull}
 use Rattle.fork_bytes.specs.Rows.{MapRow}
-use Rattle.fork_bytes.specs.Fork.{map_of, data_of, map_row, datum_length, places, type_list, type_count, TypeEntry, entry_at, entries_of, Reference, references_in, references_of, HasTypes, HoldsWithin, IsForkWithin, rank, RefusesWithin, format_limits}
+use Rattle.fork_bytes.specs.Fork.{map_of, data_of, map_row, datum_length, places, type_list, type_count, TypeEntry, entry_at, entries_of, Reference, references_in, references_of, HasTypes, HoldsWithin, IsForkWithin, rank, RefusesWithin, format_limits, most_rows}
 use Rattle.fork_bytes.specs.Reading.{HasDatum}
 use Rattle.fork_bytes.proofs.Lists.{Ends, all_both, last_ends}
 use Rattle.fork_salvage.specs.declared.plan.Plan.{Plan}
@@ -18,6 +18,7 @@ use Rattle.fork_salvage.specs.declared.fault.Fault.TheVariants as fault
 use Rattle.fork_salvage.specs.declared.fault.BadRow.{BadRow}
 use Rattle.fork_salvage.specs.declared.fault.BadList.{BadList}
 use Rattle.fork_salvage.specs.declared.fault.SameType.{SameType}
+use Rattle.fork_salvage.specs.declared.fault.Excess.{Excess}
 use Rattle.fork_salvage.specs.Salvage.{map_in, told_list}
 use Rattle.fork_salvage.specs.Plans.{IsTold}
 use Rattle.fork_salvage.specs.Fault.{IsFault, IsFirst, IsSameType, IsBadList, IsBadSum, HasBytes, bytes_up_to, datum_place, entry_place, refusal_of}
@@ -186,7 +187,14 @@ refuses fork (fault.TypeCount gap) is before = (before.0, record { fails = λ ho
 refuses fork (fault.TypeList gap) is before = (before.0, record { fails = λ holds. let entries = holds.entries in let outside = is.1.0 in omega arith; before = before.1 })
 refuses fork (fault.SameType same) is before = (before.0, record { fails = same_fails fork same is; before = before.1 })
 refuses fork (fault.References list) is before = (before.0, record { fails = list_fails fork list is; before = before.1 })
-refuses fork (fault.RowCount count) is before = (before.0, record { fails = λ few. let many = is.0 in let all = is.1 in omega arith; before = before.1 })
+refuses fork (fault.RowCount excess) is before = (
+  before.0,
+  record {
+    fails = λ few. (let P : Excess → Type 0 = λ e. e.most < e.count in
+        let many : most_rows format_limits (length (map_of fork)) < length (references_of (map_of fork)) = subst P is.1 is.0 in omega (arith, many, few));
+    before = before.1;
+  },
+)
 refuses fork (fault.Name row) is before = (before.0, record { fails = λ holds. first_fails _ _ is.reference is.first holds; before = before.1 })
 refuses fork (fault.Length row) is before = (before.0, record { fails = bytes_row_fails fork is.reference is.first; before = before.1 })
 refuses fork (fault.Bytes row) is before = (before.0, record { fails = bytes_row_fails fork is.reference is.first; before = before.1 })

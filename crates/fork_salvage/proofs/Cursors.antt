@@ -1,12 +1,13 @@
 -- The references that a cursor has left, one after the other.
-use Rattle.std.proofs.Common.{◌≡◌, ℕ, zero, suc, ◌+◌, ◌-◌, ◌<◌, ◌≤◌, ◌&&◌, Bool, true, false, List, [], ◌∷◌, ◌++◌, refl, sym, ap, ◌∙◌, arith}
+use Rattle.std.proofs.Common.{◌≡◌, ℕ, zero, suc, ◌+◌, ◌-◌, ◌<◌, ◌≤◌, ◌&&◌, Bool, true, false, List, [], ◌∷◌, ◌++◌, length, map, take, refl, sym, ap, ◌∙◌, arith}
 use Rattle.std.specs.List.{flat_map, list_all}
 use Rattle.fork_bytes.specs.Fork.{Reference}
 use Rattle.fork_bytes.proofs.Lists as lists
 use Rattle.fork_salvage.specs.declared.entry.ReferenceList.{ReferenceList}
 use Rattle.fork_salvage.specs.declared.plan.Plan.{Plan}
 use Rattle.fork_salvage.specs.declared.cursor.Cursor.{Cursor}
-use Rattle.fork_salvage.specs.Salvage.{references_at, references_from, references, list_of}
+use Rattle.fork_salvage.specs.declared.salvage.Item.{Item}
+use Rattle.fork_salvage.specs.Salvage.{references_at, references_from, references, list_of, item_of, items_of}
 use Rattle.fork_salvage.specs.Plans.{left_of}
 
 -- what is asked of all is false where one of those that are left hasn't it, and else asked of those after it
@@ -19,13 +20,20 @@ goes_on t whole rest after x told split is = told ∙ ap (list_all t) split ∙ 
 pub all_asked : {X : Type 0} (t : X → Bool) (whole : Bool) (rest : List X) → whole ≡ list_all t rest → rest ≡ [] → true ≡ whole
 all_asked t whole rest told none = sym (told ∙ ap (list_all t) none)
 
+-- of those that are left so many at most: the first, and fewer after it
+pub take_first : {X : Type 0} (n m : ℕ) (left rest : List X) (x : X) → n ≡ suc m → left ≡ x ∷ rest → take n left ≡ x ∷ take m rest
+take_first n m left rest x more split = ap (λ (k : ℕ). take k left) more ∙ ap (take (suc m)) split
+
+-- where there is room for all, each has its item
+pub all_items : (fork : List ℕ) (plan : Plan) (rs : List Reference) (room : ℕ) → length rs ≤ room → items_of fork plan rs room ≡ map (item_of fork plan) rs
+all_items fork plan [] room few = refl
+all_items fork plan (r ∷ rs) zero few = absurd (omega arith)
+all_items fork plan (r ∷ rs) (suc room) few = ap (λ (xs : List Item). item_of fork plan r ∷ xs) (all_items fork plan rs room (omega arith))
+
 -- the references of the entries from one on are those of the entry, and of the entries after it
 pub from_step : (fork : List ℕ) (plan : Plan) (i : ℕ) → i < plan.types.count →
     references_from fork plan i ≡ references_at (list_of fork plan i) ++ references_from fork plan (i + 1)
 from_step fork plan i within = ap (flat_map (λ k. references_at (list_of fork plan k))) (lists.places_step plan.types.count i i (i + 1) 1 within refl)
-
-pub from_end : (fork : List ℕ) (plan : Plan) (i : ℕ) → plan.types.count ≤ i → references_from fork plan i ≡ []
-from_end fork plan i past = ap (flat_map (λ k. references_at (list_of fork plan k))) (lists.places_end plan.types.count i i 1 past)
 
 -- a list without references, and one with some
 pub none_at : (kind : List ℕ) (count start : ℕ) → count ≡ 0 → lists.references_at kind count start ≡ []

@@ -1,17 +1,24 @@
 -- The references that a fork names, gone through for the first fault.
-use Rattle.std.proofs.Common.{◌≡◌, ℕ, zero, suc, ◌+◌, ◌-◌, ◌*◌, ◌<◌, ◌≤◌, List, [], ◌∷◌, ◌++◌, length, map, subst, refl, sym, ap, ◌∙◌, arith}
+use Rattle.std.proofs.Common.{◌≡◌, ℕ, zero, suc, ◌+◌, ◌-◌, ◌*◌, ◌<◌, ◌≤◌, List, [], ◌∷◌, ◌++◌, length, map, nat_lt, if◌then◌else◌, true, false, Option, None, Some, subst, refl, sym, ap, ◌∙◌, le-ltb, lt-ltb, arith}
+use Rattle.std.specs.Prelude.{sum_by}
 use Rattle.std.specs.List.{flat_map, AllByRecursion}
+use Rattle.std.proofs.lemmas.Bool.{cond-true, cond-false}
+use Rattle.std.proofs.lemmas.List.Sums.{sum_by-cons}
 use Rattle.std.proofs.lemmas.List.{append_assoc, length-append}
-use Rattle.fork_bytes.specs.Fork.{Reference, places, references_in, references_of, entry_at, map_of, type_list, type_count, HasReferences}
+use Rattle.fork_bytes.specs.Fork.{Reference, places, references_in, references_of, entry_at, map_of, type_list, type_count, HasReferences, format_limits, most_rows}
 use Rattle.fork_bytes.proofs.Lists as lists
 use Rattle.fork_bytes.proofs.Placing.{all_push, length-part}
 use Rattle.fork_salvage.specs.declared.entry.ReferenceList.{ReferenceList}
+use Rattle.fork_salvage.specs.declared.entry.Types.{Types}
 use Rattle.fork_salvage.specs.declared.plan.Plan.{Plan}
 use Rattle.fork_salvage.specs.declared.cursor.Cursor.{Cursor}
-use Rattle.fork_salvage.specs.Salvage.{map_in, told_plan, told_types, told_list, list_end, list_of, references_at, references_from, references}
+use Rattle.fork_salvage.specs.Salvage.{map_in, most_listed, told_plan, told_types, told_count, told_list, list_end, references_at, references}
 use Rattle.fork_salvage.specs.Plans.{left_of, IsTold}
-use Rattle.fork_salvage.specs.Fault.{IsFirst, EndsWithin, entry_place}
-use Rattle.fork_salvage.proofs.Cursors.{from_step, left_at_first}
+use Rattle.fork_salvage.specs.declared.fault.Excess.{Excess}
+use Rattle.fork_salvage.specs.declared.fault.Fault.{Fault}
+use Rattle.fork_salvage.specs.declared.fault.Fault.TheVariants as fault
+use Rattle.fork_salvage.specs.Fault.{IsFirst, EndsWithin, entry_place, excess_of}
+use Rattle.fork_salvage.proofs.Cursors.{left_at_first}
 
 -- the lists of a map, by their indices and by their places
 same_lists : (m : List ℕ) (n i at : ℕ) → at ≡ type_list m + 2 + 8 * i →
@@ -29,22 +36,51 @@ told_references fork plan is =
     ap (λ (p : Plan). references fork p) is ∙ ap (λ (k : ℕ). flat_map (λ k. references_at (told_list m (told_types m) k)) (places k 0 1)) whole
     ∙ same_lists m n 0 (type_list m + 2) (omega arith)
 
--- a list of such a plan is as its entry says
-pub told_list_of : (fork : List ℕ) (plan : Plan) (i : ℕ) → plan ≡ told_plan fork → list_of fork plan i ≡ told_list (map_in fork plan) plan.types i
-told_list_of fork plan i is = let P : Plan → Type 0 = λ p. list_of fork p i ≡ told_list (map_in fork p) p.types i in subst P (sym is) refl
-
 pub map_told : (fork : List ℕ) (plan : Plan) → plan ≡ told_plan fork → map_in fork plan ≡ map_of fork
 map_told fork plan is = ap (map_in fork) is
 
--- one more list is counted
-pub count_step : (fork : List ℕ) (plan : Plan) (i total whole : ℕ) (list : ReferenceList) → plan ≡ told_plan fork → i < plan.types.count →
-    list ≡ told_list (map_in fork plan) plan.types i → total + length (references_from fork plan i) ≡ whole →
-    (total + list.count) + length (references_from fork plan (i + 1)) ≡ whole
-count_step fork plan i total whole list is within told so_far =
-    let step = ap (λ (xs : List Reference). length xs) (from_step fork plan i within) in
-    let both = length-append (references_at (list_of fork plan i)) (references_from fork plan (i + 1)) in
-    let here = ap (λ (l : ReferenceList). l.count) (told ∙ sym (told_list_of fork plan i is)) in
-    let long = lists.length-references (list_of fork plan i).kind (list_of fork plan i).count (list_of fork plan i).start in omega arith
+-- the entries name just as many as there are
+count_from : (m : List ℕ) (types : Types) (n i : ℕ) →
+    sum_by (λ k. (told_list m types k).count) (places n i 1) ≡ length (flat_map (λ k. references_at (told_list m types k)) (places n i 1))
+count_from m types zero i = refl
+count_from m types (suc n) i =
+    let list = told_list m types i in let others = count_from m types n (i + 1) in
+    let sum = sum_by-cons (λ k. (told_list m types k).count) i (places n (i + 1) 1) in
+    let both = length-append (references_at list) (flat_map (λ k. references_at (told_list m types k)) (places n (i + 1) 1)) in
+    let long = lists.length-references list.kind list.count list.start in omega arith
+
+pub counted : (fork : List ℕ) (plan : Plan) → plan ≡ told_plan fork → told_count (map_in fork plan) plan.types ≡ length (references_of (map_of fork))
+counted fork plan is =
+    let m = map_of fork in let n = type_count m in
+    ap (λ (p : Plan). told_count (map_in fork p) p.types) is ∙ count_from m (told_types m) n 0
+    ∙ ap (λ (xs : List Reference). length xs) (same_lists m n 0 (type_list m + 2) (omega arith))
+
+-- how many references there are, and how many are read, is what a fault says
+abbrev excess_with : ℕ → ℕ → ℕ → Excess
+excess_with count map_length most = record { count = count; map_length = map_length; most = most }
+
+pub is_excess : (fork : List ℕ) (plan : Plan) (m : List ℕ) (count most : ℕ) → plan ≡ told_plan fork → m ≡ map_in fork plan → count ≡ told_count m plan.types →
+    most ≡ most_listed fork plan → excess_with count (length m) most ≡ excess_of fork
+is_excess fork plan m count most is same counts limit =
+    let told = map_told fork plan is in
+    let all = counts ∙ ap (λ (x : List ℕ). told_count x plan.types) same ∙ counted fork plan is in
+    let size = ap (λ (x : List ℕ). length x) (same ∙ told) in
+    let room = limit ∙ ap (λ (x : List ℕ). most_rows format_limits (length x)) told in
+    ap (λ (n : ℕ). excess_with n (length m) most) all
+    ∙ ap (λ (n : ℕ). excess_with (length (references_of (map_of fork))) n most) size
+    ∙ ap (excess_with (length (references_of (map_of fork))) (length (map_of fork))) room
+
+-- they are too many, or not
+abbrev fault_by : Excess → Option Fault
+fault_by excess = if nat_lt excess.most excess.count then Some (fault.RowCount excess) else None
+
+pub too_many : (excess said : Excess) → excess ≡ said → excess.most < excess.count → Some (fault.RowCount excess) ≡ fault_by said
+too_many excess said same many =
+    let test : nat_lt excess.most excess.count ≡ true = lt-ltb excess.most excess.count many in sym (cond-true _ _ _ test) ∙ ap fault_by same
+
+pub few_enough : (excess said : Excess) → excess ≡ said → excess.count ≤ excess.most → None ≡ fault_by said
+few_enough excess said same few =
+    let test : nat_lt excess.most excess.count ≡ false = le-ltb excess.most excess.count few in sym (cond-false _ _ _ test) ∙ ap fault_by same
 
 -- the references of a map: those before hold, and those that are left lie within it
 pub record IsLoop (P : Reference → Type 0) (m : List ℕ) (left : List Reference) : Type 0 where

@@ -1,9 +1,9 @@
 -- A fork that is read is salvaged as it is, and nothing of it is lost.
-use Rattle.std.proofs.Common.{◌≡◌, ℕ, ◌+◌, ◌≤◌, ◌&&◌, ◌==◌, nat_lt, nat_le, if◌then◌else◌, Bool, true, false, Option, None, Some, Ok, is_ok, IfSome, List, [], ◌∷◌, ◌++◌, length, map, slice_index, refl, sym, ap, ◌∙◌, le-leb, le-ltb, arith}
+use Rattle.std.proofs.Common.{◌≡◌, ℕ, ◌+◌, ◌≤◌, ◌&&◌, ◌==◌, nat_lt, nat_le, if◌then◌else◌, Bool, true, false, Option, None, Some, Ok, is_ok, IfSome, List, [], ◌∷◌, ◌++◌, length, map, take, slice_index, refl, sym, ap, ◌∙◌, le-leb, le-ltb, arith}
 use Rattle.std.specs.List.{AllByRecursion, list_all}
 use Rattle.std.specs.Int.{w16, cast_signed}
-use Rattle.std.proofs.lemmas.List.{append-nil}
-use Rattle.fork_bytes.specs.declared.fault.Condition.TheVariants.{Parts, Types, References, Names, Places}
+use Rattle.std.proofs.lemmas.List.{append-nil, take_all}
+use Rattle.fork_bytes.specs.declared.fault.Condition.TheVariants.{Parts, Types, References, RowCount, Names, Places}
 use Rattle.fork_bytes.specs.Rows.{Row}
 use Rattle.fork_bytes.specs.Fork.{number_at, bytes_at, header_of, map_of, data_of, map_row, row_with, name_place, name_at, name_list, datum_length, references_of, Reference, HasPartsWithin, IsForkWithin, format_limits}
 use Rattle.fork_bytes.specs.Reading.{HasName, HasDatum}
@@ -11,8 +11,9 @@ use Rattle.fork_bytes.proofs.Placing.{bytes_in_part, length-part, length-data}
 use Rattle.fork_salvage.specs.declared.plan.Plan.{Plan}
 use Rattle.fork_salvage.specs.declared.reference.FoundName.{FoundName}
 use Rattle.fork_salvage.specs.declared.reference.FoundName.TheVariants.{Unnamed, Named, Outside}
-use Rattle.fork_salvage.specs.Salvage.{told_plan, bytes_found, name_found, has_bytes, is_inside, keeps_all, item_with, item_of, references, plan_of, may_be_told, lies_within, parts_at, told_types, runs_of}
+use Rattle.fork_salvage.specs.Salvage.{told_plan, bytes_found, name_found, has_bytes, is_inside, is_kept, keeps_all, item_with, item_of, items_of, listed, most_listed, references, plan_of, may_be_told, lies_within, parts_at, told_types, runs_of}
 use Rattle.fork_salvage.specs.Laws.{name_shown, row_shown, ShowsTable}
+use Rattle.fork_salvage.proofs.Cursors.{all_items}
 use Rattle.fork_salvage.proofs.Faults.{told_references}
 use Rattle.fork_salvage.proofs.Telling.{told_holds}
 
@@ -66,7 +67,7 @@ shown_by fork parts false start has =
 abbrev IsKept : List ℕ → Reference → Type 0
 IsKept fork r = (r.place + 12 ≤ length (map_of fork)) × HasName (map_of fork) r × HasDatum (data_of fork) (map_row (map_of fork) r)
 
-kept : (fork : List ℕ) (r : Reference) → IsKept fork r → (has_bytes fork (told_plan fork) r.place && is_inside (name_found fork (told_plan fork) r.place)) ≡ true
+kept : (fork : List ℕ) (r : Reference) → IsKept fork r → is_kept fork (told_plan fork) r ≡ true
 kept fork r is =
     let m = map_of fork in let offset = number_at 2 (r.place + 2) m in
     let b : has_bytes fork (told_plan fork) r.place ≡ true = ap is_ok (found fork r is.0 is.2) in
@@ -98,10 +99,10 @@ row_same fork parts r is =
 
 -- all of them
 all_kept : (fork : List ℕ) (rs : List Reference) → AllByRecursion (IsKept fork) rs →
-    list_all (λ (r : Reference). has_bytes fork (told_plan fork) r.place && is_inside (name_found fork (told_plan fork) r.place)) rs ≡ true
+    list_all (is_kept fork (told_plan fork)) rs ≡ true
 all_kept fork [] all = refl
 all_kept fork (r ∷ rs) all =
-    ap (λ (t : Bool). t && list_all (λ (s : Reference). has_bytes fork (told_plan fork) s.place && is_inside (name_found fork (told_plan fork) s.place)) rs) (kept fork r all.0)
+    ap (λ (t : Bool). t && list_all (is_kept fork (told_plan fork)) rs) (kept fork r all.0)
     ∙ all_kept fork rs all.1
 
 rows_same : (fork : List ℕ) → HasPartsWithin format_limits (length fork) (header_of fork) → (rs : List Reference) → AllByRecursion (IsKept fork) rs →
@@ -116,20 +117,32 @@ join_kept : (fork : List ℕ) (rs : List Reference) → AllByRecursion (λ (r : 
 join_kept fork [] ends named has = tt
 join_kept fork (r ∷ rs) ends named has = ((ends.0, named.0, has.0), join_kept fork rs ends.1 named.1 has.1)
 
+-- the map has room for all references
+all_listed : (fork : List ℕ) → IsForkWithin format_limits fork → listed fork (told_plan fork) ≡ references_of (map_of fork)
+all_listed fork is =
+    let told = told_references fork (told_plan fork) refl in let n = most_listed fork (told_plan fork) in
+    ap (take n) told ∙ take_all n (references_of (map_of fork)) (is.holds RowCount)
+
+has_items : (fork : List ℕ) → IsForkWithin format_limits fork →
+    items_of fork (told_plan fork) (references fork (told_plan fork)) (most_listed fork (told_plan fork)) ≡ map (item_of fork (told_plan fork)) (references_of (map_of fork))
+has_items fork is =
+    let told = told_references fork (told_plan fork) refl in let n = most_listed fork (told_plan fork) in
+    ap (λ (rs : List Reference). items_of fork (told_plan fork) rs n) told ∙ all_items fork (told_plan fork) (references_of (map_of fork)) n (is.holds RowCount)
+
 is_told : (fork : List ℕ) → IsForkWithin format_limits fork → plan_of fork ≡ told_plan fork
 is_told fork is =
     let parts = is.holds Parts in let types = is.holds Types in
     let all = join_kept fork (references_of (map_of fork)) (is.holds References) (is.holds Names) (is.holds Places) in
     let lies : lies_within (length fork) (parts_at 0 fork) ≡ true = both_three (le-leb _ _ parts.whole_data) (le-leb _ _ parts.whole_map) (le-leb _ _ parts.map_header) in
     let may = told_holds fork (parts_at 0 fork) (told_types (map_of fork)) refl is.header lies refl types.entries in
-    let keeps = ap (list_all (λ (r : Reference). has_bytes fork (told_plan fork) r.place && is_inside (name_found fork (told_plan fork) r.place)))
-    (told_references fork (told_plan fork) refl) ∙ all_kept fork _ all in
+    let keeps = ap (list_all (is_kept fork (told_plan fork))) (all_listed fork is) ∙ all_kept fork _ all in
     chosen (may_be_told fork && keeps_all fork (told_plan fork)) _ _ (ap (λ (t : Bool). t && keeps_all fork (told_plan fork)) may ∙ keeps)
 
 pub shows_table : ShowsTable
 shows_table fork is =
     let all = join_kept fork (references_of (map_of fork)) (is.holds References) (is.holds Names) (is.holds Places) in
-    ap (λ (p : Plan). map (row_shown fork) (map (item_of fork p) (references fork p) ++ runs_of fork p)) (is_told fork is)
-    ∙ ap (map (row_shown fork)) (append-nil (map (item_of fork (told_plan fork)) (references fork (told_plan fork))))
-    ∙ ap (λ (rs : List Reference). map (row_shown fork) (map (item_of fork (told_plan fork)) rs)) (told_references fork (told_plan fork) refl)
+    let plan = told_plan fork in let found = items_of fork plan (references fork plan) (most_listed fork plan) in
+    ap (λ (p : Plan). map (row_shown fork) (items_of fork p (references fork p) (most_listed fork p) ++ runs_of fork p)) (is_told fork is)
+    ∙ ap (map (row_shown fork)) (append-nil found)
+    ∙ ap (map (row_shown fork)) (has_items fork is)
     ∙ rows_same fork (is.holds Parts) _ all

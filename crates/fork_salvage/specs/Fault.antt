@@ -5,12 +5,13 @@ use Rattle.std.specs.Int.{w16, cast_signed}
 use Rattle.fork_bytes.specs.declared.fault.Condition.TheVariants as of
 use Rattle.fork_bytes.specs.declared.fault.ForkFault.{ForkFault}
 use Rattle.fork_bytes.specs.declared.fault.ForkFault.TheVariants.{EndOfFile, BadMap}
-use Rattle.fork_bytes.specs.Fork.{number_at, bytes_at, header_of, map_of, data_of, type_list, name_list, type_count, Reference, entry_at, references_of, map_row, datum_length, format_limits}
+use Rattle.fork_bytes.specs.Fork.{number_at, bytes_at, header_of, map_of, data_of, type_list, name_list, type_count, Reference, entry_at, references_of, map_row, datum_length, format_limits, most_rows}
 use Rattle.fork_bytes.specs.Reading.{HasName, HasDatum}
 use Rattle.fork_salvage.specs.declared.place.Gap.{Gap}
 use Rattle.fork_salvage.specs.declared.fault.BadRow.{BadRow}
 use Rattle.fork_salvage.specs.declared.fault.BadList.{BadList}
 use Rattle.fork_salvage.specs.declared.fault.SameType.{SameType}
+use Rattle.fork_salvage.specs.declared.fault.Excess.{Excess}
 use Rattle.fork_salvage.specs.declared.fault.Fault.{Fault}
 use Rattle.fork_salvage.specs.declared.fault.Fault.TheVariants as fault
 
@@ -25,7 +26,7 @@ refusal_of (fault.TypeCount gap) = BadMap of.Types
 refusal_of (fault.TypeList gap) = BadMap of.Types
 refusal_of (fault.SameType same) = BadMap of.Types
 refusal_of (fault.References list) = BadMap of.References
-refusal_of (fault.RowCount count) = BadMap of.RowCount
+refusal_of (fault.RowCount excess) = BadMap of.RowCount
 refusal_of (fault.Name row) = BadMap of.Names
 refusal_of (fault.Length row) = BadMap of.Places
 refusal_of (fault.Bytes row) = BadMap of.Places
@@ -143,6 +144,11 @@ pub record IsBadSum (fork : List ℕ) (row : BadRow) : Type 0 where
     left = format_limits.bytes;
   }
 
+-- how many references a fork has, how long its map is, and how many are read of such a map
+abbrev pub excess_of : List ℕ → Excess
+excess_of fork = let size = length (map_of fork) in
+    record { count = length (references_of (map_of fork)); map_length = size; most = most_rows format_limits size }
+
 -- a fork isn't too long; the same, and its data lies within it; the same, and so does its map
 abbrev pub IsShort : List ℕ → Type 0
 IsShort fork = length fork ≤ format_limits.fork
@@ -165,7 +171,7 @@ IsFault fork (fault.TypeList gap) = (type_list (map_of fork) + 2 ≤ length (map
     × IsGap (header_of fork).map_offset (length (map_of fork)) (type_list (map_of fork) + 2) (8 * type_count (map_of fork)) gap
 IsFault fork (fault.SameType same) = IsSameType fork same
 IsFault fork (fault.References list) = IsBadList fork list
-IsFault fork (fault.RowCount count) = (format_limits.rows < count) × (count ≡ length (references_of (map_of fork)))
+IsFault fork (fault.RowCount excess) = (excess.most < excess.count) × (excess ≡ excess_of fork)
 IsFault fork (fault.Name row) = IsBadRow fork (HasName (map_of fork)) (name_gap fork) row
 IsFault fork (fault.Length row) = IsBadRow fork (HasBytes fork) (λ reference gap. datum_gap fork reference 4 gap) row
 IsFault fork (fault.Bytes row) = IsBadRow fork (HasBytes fork) (bytes_gap fork) row

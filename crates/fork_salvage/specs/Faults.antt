@@ -1,15 +1,15 @@
 -- All faults of a fork, each with its place.
-use Rattle.std.specs.Prelude.{ℕ, ◌+◌, ◌-◌, ◌*◌, ◌==◌, ◌&&◌, nat_le, nat_lt, if◌then◌else◌, List, [], ◌∷◌, ◌++◌, length, option_map, option_to_list, Option, None, Some, Result, Ok, Err, bytes_eq, slice_index, take}
+use Rattle.std.specs.Prelude.{ℕ, ◌+◌, ◌-◌, ◌*◌, ◌==◌, ◌&&◌, nat_le, nat_lt, if◌then◌else◌, List, [], ◌++◌, length, option_map, option_to_list, Option, None, Some, Result, Ok, Err, bytes_eq, slice_index, take}
 use Rattle.std.specs.List.{flat_map, find}
-use Rattle.fork_bytes.specs.Fork.{map_of, references_of, name_list, number_at, places, type_list, type_count, Reference, format_limits}
+use Rattle.fork_bytes.specs.Fork.{map_of, name_list, number_at, places, type_list, type_count, Reference, format_limits}
 use Rattle.fork_salvage.specs.declared.place.Gap.{Gap}
 use Rattle.fork_salvage.specs.declared.place.Span.{Span}
 use Rattle.fork_salvage.specs.declared.fault.Fault.{Fault}
 use Rattle.fork_salvage.specs.declared.fault.Fault.TheVariants as fault
 use Rattle.fork_salvage.specs.declared.entry.Types.{Types}
 use Rattle.fork_salvage.specs.declared.entry.ReferenceList.{ReferenceList}
-use Rattle.fork_salvage.specs.Salvage.{bytes_found, map_in, may_be_told, parts_at, references, told_list, told_plan}
-use Rattle.fork_salvage.specs.Fault.{bad_row}
+use Rattle.fork_salvage.specs.Salvage.{bytes_found, map_in, may_be_told, most_listed, parts_at, references, told_list, told_plan}
+use Rattle.fork_salvage.specs.Fault.{bad_row, excess_of}
 use Rattle.fork_salvage.specs.declared.plan.Plan.{Plan}
 use Rattle.fork_salvage.specs.declared.reference.Loss.{Loss}
 use Rattle.fork_salvage.specs.declared.reference.Loss.TheVariants as loss
@@ -98,13 +98,13 @@ rows_faults fork plan most = flat_map (row_faults fork plan) (take most (referen
 
 -- there are too many references
 abbrev pub count_fault : List ℕ → Option Fault
-count_fault fork = let count = length (references_of (map_of fork)) in if nat_lt format_limits.rows count then Some (fault.RowCount count) else None
+count_fault fork = let excess = excess_of fork in if nat_lt excess.most excess.count then Some (fault.RowCount excess) else None
 
--- the faults of the lists of a map that lies within the fork, as its type list does: at most 4,194,304 references are
--- looked at
+-- the faults of the lists of a map that lies within the fork, as its type list does: no more references are looked at
+-- than the map has room for
 abbrev pub lists_faults : List ℕ → Plan → List Fault
 lists_faults fork plan =
-    entries_faults plan.map (map_in fork plan) plan.types 0 ++ option_to_list (count_fault fork) ++ rows_faults fork plan format_limits.rows
+    entries_faults plan.map (map_in fork plan) plan.types 0 ++ option_to_list (count_fault fork) ++ rows_faults fork plan (most_listed fork plan)
 
 -- the fault of a type list, if the map lies within the fork and has a header
 abbrev pub map_faults : List ℕ → List Fault

@@ -29,6 +29,7 @@ row_of fork found = record {
 abbrev pub row_shown : List ℕ → Item → Option Row
 row_shown fork (item.Row found) = Some (row_of fork found)
 row_shown fork (item.Lost lost) = None
+row_shown fork item.More = None
 row_shown fork (item.Run span) = None
 
 -- of a fork that is read, the items are the rows of its table, each once

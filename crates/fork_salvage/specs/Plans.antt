@@ -1,5 +1,5 @@
 -- What each plan to read a fork is, and what a cursor has left of it.
-use Rattle.std.specs.Prelude.{◌≡◌, ℕ, ◌+◌, ◌*◌, ◌<◌, ◌≤◌, ◌++◌, List, length, map}
+use Rattle.std.specs.Prelude.{◌≡◌, ℕ, ◌+◌, ◌*◌, ◌<◌, ◌≤◌, ◌++◌, List, length}
 use Rattle.fork_bytes.specs.Fork.{Reference}
 use Rattle.fork_salvage.specs.declared.place.Span.{Span}
 use Rattle.fork_salvage.specs.declared.entry.Types.{Types}
@@ -8,7 +8,7 @@ use Rattle.fork_salvage.specs.declared.cursor.Cursor.{Cursor}
 use Rattle.fork_salvage.specs.declared.salvage.Chain.{Chain}
 use Rattle.fork_salvage.specs.declared.salvage.Item.{Item}
 use Rattle.fork_salvage.specs.declared.reference.MapReference.{MapReference}
-use Rattle.fork_salvage.specs.Salvage.{map_in, references_at, references_from, item_of, runs, told_plan}
+use Rattle.fork_salvage.specs.Salvage.{map_in, references_at, references_from, items_of, runs, told_plan}
 
 -- a part lies within the fork
 abbrev pub IsWithin : List ℕ → Span → Type 0
@@ -48,6 +48,6 @@ pub record IsCursor (plan : Plan) (cursor : Cursor) : Type 0 where
   pub small : cursor.list.start + 12 * cursor.list.count < 2000000
   pub types : 0 < cursor.list.count → 0 < plan.types.count
 
--- the items that are left
-abbrev pub items_left : List ℕ → Plan → Cursor → Chain → List Item
-items_left fork plan cursor chain = map (item_of fork plan) (left_of fork plan cursor) ++ runs chain.most chain.at fork
+-- the items that are left, of so many references at most
+abbrev pub items_left : List ℕ → Plan → Cursor → ℕ → Chain → List Item
+items_left fork plan cursor room chain = items_of fork plan (left_of fork plan cursor) room ++ runs chain.most chain.at fork

@@ -1,8 +1,8 @@
 -- What can still be read of a damaged fork.
-use Rattle.std.specs.Prelude.{ℕ, zero, suc, ◌+◌, ◌-◌, ◌*◌, ◌/◌, ◌==◌, ◌&&◌, not, nat_le, nat_lt, min, max, if◌then◌else◌, Bool, true, false, List, [], ◌∷◌, ◌++◌, length, map, slice_index, None, Some, Result, Ok, Err, is_ok}
+use Rattle.std.specs.Prelude.{ℕ, zero, suc, ◌+◌, ◌-◌, ◌*◌, ◌/◌, ◌==◌, ◌&&◌, not, nat_le, nat_lt, min, max, if◌then◌else◌, Bool, true, false, List, [], ◌∷◌, ◌++◌, length, take, sum_by, slice_index, None, Some, Result, Ok, Err, is_ok}
 use Rattle.std.specs.List.{flat_map, list_all}
 use Rattle.std.specs.Int.{w16, cast_signed}
-use Rattle.fork_bytes.specs.Fork.{number_at, bytes_at, count_at, attributes_of, places, type_list, name_list, Reference, references_in}
+use Rattle.fork_bytes.specs.Fork.{number_at, bytes_at, count_at, attributes_of, places, type_list, name_list, Reference, references_in, format_limits, most_rows}
 use Rattle.fork_salvage.specs.declared.place.Span.{Span}
 use Rattle.fork_salvage.specs.declared.place.NameSpan.{NameSpan}
 use Rattle.fork_salvage.specs.declared.place.Parts.{Parts}
@@ -16,7 +16,7 @@ use Rattle.fork_salvage.specs.declared.plan.Plan.{Plan}
 use Rattle.fork_salvage.specs.declared.found.FoundRow.{FoundRow}
 use Rattle.fork_salvage.specs.declared.salvage.LostRow.{LostRow}
 use Rattle.fork_salvage.specs.declared.salvage.Item.{Item}
-use Rattle.fork_salvage.specs.declared.salvage.Item.TheVariants.{Row, Lost, Run}
+use Rattle.fork_salvage.specs.declared.salvage.Item.TheVariants.{Row, Lost, More, Run}
 
 -- the bytes of a part of a fork
 abbrev pub part : List ℕ → Span → List ℕ
@@ -40,6 +40,10 @@ told_list resource_map types i = let at = types.place + 2 + 8 * i in record {
   count = count_at (at + 4) resource_map;
   start = types.place + number_at 2 (at + 6) resource_map;
 }
+
+-- how many references the entries name
+abbrev pub told_count : List ℕ → Types → ℕ
+told_count resource_map types = sum_by (λ i. (told_list resource_map types i).count) (places types.count 0 1)
 
 -- where a list of references ends
 abbrev pub list_end : ReferenceList → ℕ
@@ -105,12 +109,13 @@ list_in_room told room next =
     if room + 12 * told.count == next then record told { start = room }
     else (if (told.start == room) && nat_lt room next then record told { count = (next - room) / 12 } else told)
 
--- the list of an entry, as the entry says where the list is whole or the plan is not mended, or else in its room
+-- the list of an entry, as the entry says where the list is whole or the plan is not mended, or else in its room; in a
+-- crowded map none is taken to be whole
 abbrev pub list_of : List ℕ → Plan → ℕ → ReferenceList
 list_of fork plan i =
     let resource_map = map_in fork plan in let told = told_list resource_map plan.types i in
     if not plan.mended then told
-    else (if is_whole fork plan told then told else list_in_room told (end_before resource_map plan.types i) (next_start resource_map plan.types i))
+    else (if not plan.crowded && is_whole fork plan told then told else list_in_room told (end_before resource_map plan.types i) (next_start resource_map plan.types i))
 
 -- the references of the entries from one on
 abbrev pub references_from : List ℕ → Plan → ℕ → List Reference
@@ -120,9 +125,20 @@ references_from fork plan i = flat_map (λ k. references_at (list_of fork plan k
 abbrev pub references : List ℕ → Plan → List Reference
 references fork plan = references_from fork plan 0
 
--- no reference is without its bytes or its name
+-- those that are looked at: no more than the map has room for
+abbrev pub most_listed : List ℕ → Plan → ℕ
+most_listed fork plan = most_rows format_limits (length (map_in fork plan))
+
+abbrev pub listed : List ℕ → Plan → List Reference
+listed fork plan = take (most_listed fork plan) (references fork plan)
+
+-- a reference is neither without its bytes nor without its name
+abbrev pub is_kept : List ℕ → Plan → Reference → Bool
+is_kept fork plan r = has_bytes fork plan r.place && is_inside (name_found fork plan r.place)
+
+-- so are all that are looked at
 abbrev pub keeps_all : List ℕ → Plan → Bool
-keeps_all fork plan = list_all (λ (r : Reference). has_bytes fork plan r.place && is_inside (name_found fork plan r.place)) (references fork plan)
+keeps_all fork plan = list_all (is_kept fork plan) (listed fork plan)
 
 -- the parts that the header at an offset of the fork says
 abbrev pub parts_at : ℕ → List ℕ → Parts
@@ -147,6 +163,7 @@ told_plan fork = let parts = parts_at 0 fork in record {
   «data» = parts.«data»;
   types = told_types (part fork parts.map);
   mended = false;
+  crowded = false;
 }
 
 -- so it may be read: its parts and its type list lie within it
@@ -210,14 +227,20 @@ stretched fork_length parts =
       «data» = record { start = min parts.«data».start fork_length; length = data_end - parts.«data».start };
     }
 
+-- the entries name more references than the map has room for
+abbrev pub is_crowded : List ℕ → Types → Bool
+is_crowded resource_map types = nat_lt (most_rows format_limits (length resource_map)) (told_count resource_map types)
+
 -- the plan of a damaged fork
 abbrev pub mended_plan : List ℕ → Plan
-mended_plan fork = let parts = stretched (length fork) (mended_parts fork) in record {
-  map = parts.map;
-  «data» = parts.«data»;
-  types = mended_types (part fork parts.map);
-  mended = true;
-}
+mended_plan fork =
+    let parts = stretched (length fork) (mended_parts fork) in let resource_map = part fork parts.map in let types = mended_types resource_map in record {
+      map = parts.map;
+      «data» = parts.«data»;
+      types = types;
+      mended = true;
+      crowded = is_crowded resource_map types;
+    }
 
 -- how the fork is read: as it says, if nothing is lost by that
 abbrev pub plan_of : List ℕ → Plan
@@ -272,6 +295,12 @@ runs_start fork plan = let start = plan.«data».start in if nat_le 16 start && 
 abbrev pub runs_of : List ℕ → Plan → List Item
 runs_of fork plan = if plan.mended && (plan.types.count == 0) then runs (length fork) (runs_start fork plan) fork else []
 
--- all that can be read: an item for each reference, or the runs
+-- an item for each of these references, of so many at most: that there are more is the last
+abbrev pub items_of : List ℕ → Plan → List Reference → ℕ → List Item
+items_of fork plan [] most = []
+items_of fork plan (r ∷ rs) zero = More ∷ []
+items_of fork plan (r ∷ rs) (suc most) = item_of fork plan r ∷ items_of fork plan rs most
+
+-- all that can be read: an item for each reference that the map has room for, or the runs
 abbrev pub items : List ℕ → List Item
-items fork = let plan = plan_of fork in map (item_of fork plan) (references fork plan) ++ runs_of fork plan
+items fork = let plan = plan_of fork in items_of fork plan (references fork plan) (most_listed fork plan) ++ runs_of fork plan

@@ -12,7 +12,7 @@ ghost use Rattle.fork_salvage.specs.declared.fault.Fault.{Fault};
 use crate::cursor::Cursor;
 use crate::entry::{ENTRY_LENGTH, ReferenceList, Types, told_list};
 use crate::fault::{BadList, Fault, SameType};
-use crate::first::{MAX_FORK, MAX_ROWS, bad_row, find_count, first_fault};
+use crate::first::{MAX_FORK, bad_row, find_count, first_fault};
 use crate::number::{read_count, read_two};
 use crate::place::{Gap, Parts, Span};
 use crate::plan::{HEADER_LENGTH, MAP_HEADER_LENGTH, Plan, parts_at, told_plan};
@@ -249,7 +249,7 @@ fn push_lists(faults: &mut Vec<Fault>, fork: &[u8], plan: &Plan) -> Result<(), A
 {
     push_entries(faults, plan.map, plan.map.of(fork), plan.types)?;
     push_fault(faults, find_count(fork, plan))?;
-    push_rows(faults, fork, plan, MAX_ROWS)?;
+    push_rows(faults, fork, plan, plan.most_rows(fork))?;
     Ok(())
 }
 
@@ -301,7 +301,7 @@ fn with_first<T: PartialEq + Copy>(
 /// All faults of a fork, each with its place: the first that the reader meets, as `first_fault` gives it, and then the
 /// others in the order of what they are of: the header, the parts, the type list, each entry of it and each reference.
 /// There is none exactly of a fork that is read. Of what is after a part that ends outside of the fork nothing is
-/// looked at, and of the references the first 4,194,304. The only error is that the host has no memory.
+/// looked at, and of the references no more than the map has room for. The only error is that the host has no memory.
 pub fn all_faults(alloc: Global, fork: &[u8]) -> Result<Vec<Fault>, AllocError>
     ensures none { IfOk result (λ faults. IsForkWithin format_limits fork.now → faults.items ≡ []) }
     ensures fork { IfOk result (λ faults. faults.items ≡ [] → IsForkWithin format_limits fork.now) }

@@ -17,9 +17,9 @@ pub(crate) struct Cursor {
 }
 
 impl Cursor {
-    /// A cursor before the first reference.
-    pub(crate) fn new() -> Cursor
-        ensures first { result.next ≡ 0 }
+    /// A cursor before the references of the entry at an index.
+    fn before(next: usize) -> Cursor
+        ensures first { result.next ≡ next }
         ensures none { result.list.count ≡ 0 }
         ensures start { result.list.start ≡ 0 }
     {
@@ -29,8 +29,26 @@ impl Cursor {
                 count: 0,
                 start: 0,
             },
-            next: 0,
+            next,
         }
+    }
+
+    /// A cursor before the first reference.
+    pub(crate) fn new() -> Cursor
+        ensures first { result.next ≡ 0 }
+        ensures none { result.list.count ≡ 0 }
+        ensures start { result.list.start ≡ 0 }
+    {
+        Cursor::before(0)
+    }
+
+    /// A cursor after the last reference.
+    pub(crate) fn after(plan: &Plan) -> Cursor
+        ensures first { result.next ≡ plan.now.types.count }
+        ensures none { result.list.count ≡ 0 }
+        ensures start { result.list.start ≡ 0 }
+    {
+        Cursor::before(plan.types.count)
     }
 
     /// The next reference, or None after the last.
@@ -60,13 +78,17 @@ impl Cursor {
     }
 }
 
-/// Whether no reference of a fork is without its bytes or its name.
+/// Whether no reference of a fork that is looked at is without its bytes or its name.
 pub(crate) fn keeps_all(fork: &[u8], plan: &Plan) -> bool
     requires { IsPlan fork.now plan.now }
     ensures { result ≡ keeps_all fork.now plan.now }
 {
+    let most = plan.most_rows(fork);
     let mut cursor = Cursor::new();
-    while let Some(reference) = cursor.next(fork, plan) {
+    for _turn in 0..most {
+        let Some(reference) = cursor.next(fork, plan) else {
+            return true;
+        };
         if !is_kept(fork, plan, reference.place) {
             return false;
         }

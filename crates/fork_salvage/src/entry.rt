@@ -1,9 +1,9 @@
 //! The type list of a map, and the lists of references that it leads to.
 
-ghost use Rattle.std.specs.Prelude.{◌≡◌, ◌<◌, ◌≤◌, ◌+◌, ◌*◌, length};
+ghost use Rattle.std.specs.Prelude.{◌≡◌, ◌<◌, ◌≤◌, ◌+◌, ◌*◌, ◌^◌, length};
 ghost use Rattle.fork_bytes.specs.Fork.{bytes_at};
 ghost use Rattle.fork_salvage.specs.Plans.{IsTypes, IsPlan};
-ghost use Rattle.fork_salvage.specs.Salvage.{told_list, end_before, next_start, is_whole, list_in_room, list_of};
+ghost use Rattle.fork_salvage.specs.Salvage.{told_count, told_list, end_before, next_start, is_whole, list_in_room, list_of};
 
 use crate::number::{read_count, read_two};
 use crate::plan::Plan;
@@ -61,6 +61,19 @@ pub(crate) fn told_list(map: &[u8], types: Types, index: usize) -> ReferenceList
         count: read_count(map, at + 4),
         start: types.place + read_two(map, at + 6),
     }
+}
+
+/// How many references the entries of a type list name. None of these is looked at.
+pub(crate) fn told_count(map: &[u8], types: Types) -> usize
+    requires types { IsTypes map.now types }
+    ensures count { result ≡ told_count map.now types }
+    ensures small { result < 2 ^ 32 }
+{
+    let mut count = 0;
+    for i in 0..types.count {
+        count += told_list(map, types, i).count;
+    }
+    count
 }
 
 /// Where the list before that of an entry ends; before the first it is the type list.
@@ -130,7 +143,8 @@ fn list_in_room(told: ReferenceList, room: usize, next: usize) -> ReferenceList
     }
 }
 
-/// The list of an entry, as the entry says where the list is whole or the plan is not mended, or else in its room.
+/// The list of an entry, as the entry says where the list is whole or the plan is not mended, or else in its room. In
+/// a crowded map none is taken to be whole.
 pub(crate) fn list_of(fork: &[u8], plan: &Plan, index: usize) -> ReferenceList
     requires plan { IsPlan fork.now plan.now }
     requires within { index < plan.now.types.count }
@@ -143,7 +157,7 @@ pub(crate) fn list_of(fork: &[u8], plan: &Plan, index: usize) -> ReferenceList
     if !plan.mended {
         return told;
     }
-    if is_whole(fork, plan, &told) {
+    if !plan.crowded && is_whole(fork, plan, &told) {
         return told;
     }
     let room = end_before(map, types, index);

@@ -25,6 +25,15 @@ pub struct BadList {
     pub gap: Gap,
 }
 
+/// More references than are read of a map: how many there are, how many bytes the map has, and how many references of
+/// such a map are read at most. That is one for each 12 bytes, and 4,194,304 of a longer map.
+#[derive(Clone, Copy, Debug, PartialEq, Eq)]
+pub struct Excess {
+    pub count: usize,
+    pub map_length: usize,
+    pub most: usize,
+}
+
 /// A resource of which something ends outside: its type and id, where its reference is in the fork, and what is
 /// missing.
 #[derive(Clone, Copy, Debug, PartialEq, Eq)]
@@ -56,8 +65,8 @@ pub enum Fault {
     SameType(SameType),
     /// The references of a type end outside of the map.
     References(BadList),
-    /// There are more than 4,194,304 references: so many.
-    RowCount(usize),
+    /// There are more references than the map has room for.
+    RowCount(Excess),
     /// A name ends outside of the map. The place is that of its byte of length.
     Name(BadRow),
     /// The four bytes of a resource's length end outside of the data.
@@ -150,12 +159,7 @@ impl fmt::Display for Fault {
             Fault::TypeList(gap) => write_part(f, "the type list", gap, "map"),
             Fault::SameType(same) => write_same(f, same),
             Fault::References(list) => write_list(f, list),
-            Fault::RowCount(count) => {
-                write!(
-                    f,
-                    "there are {count} resources, and at most 4194304 are read"
-                )
-            }
+            Fault::RowCount(excess) => write_excess(f, excess),
             Fault::Name(row) => write_row(f, row, "its name with its byte of length has", "map"),
             Fault::Length(row) => write_row(f, row, "the bytes of its length are", "data"),
             Fault::Bytes(row) => write_row(f, row, "its length is", "data"),
@@ -177,6 +181,19 @@ fn write_same<W: fmt::Write>(f: &mut fmt::Formatter<W>, same: &SameType) -> fmt:
     write!(
         f,
         "{kind} is twice in the type list\n  at ${second:06X}, first at ${first:06X}"
+    )
+}
+
+/// What is said of too many references.
+fn write_excess<W: fmt::Write>(f: &mut fmt::Formatter<W>, excess: &Excess) -> fmt::Result {
+    let Excess {
+        count,
+        map_length,
+        most,
+    } = *excess;
+    write!(
+        f,
+        "there are {count} resources in a map of {map_length} bytes, and at most {most} are read"
     )
 }
 

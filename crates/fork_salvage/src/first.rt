@@ -12,18 +12,16 @@ ghost use Rattle.fork_salvage.specs.Faults.{count_fault};
 ghost use Rattle.fork_salvage.specs.Fault.{IsFault, HasBytes, IsGap, bad_row, refusal_of};
 
 use crate::cursor::Cursor;
-use crate::entry::{ENTRY_LENGTH, ReferenceList, Types, told_list};
-use crate::fault::{BadList, BadRow, Fault, SameType};
+use crate::entry::{ENTRY_LENGTH, ReferenceList, Types, told_count, told_list};
+use crate::fault::{BadList, BadRow, Excess, Fault, SameType};
 use crate::number::{read_count, read_signed, read_two};
 use crate::place::{Gap, Parts, Span};
 use crate::plan::{HEADER_LENGTH, MAP_HEADER_LENGTH, Plan, parts_at};
 use crate::reference::{Loss, MapReference, NO_NAME, REFERENCE_LENGTH, find_bytes};
 use fork_bytes::layout::Limits;
 
-/// The most bytes of a fork, the most resources, and the most bytes of all of these with their lengths.
+/// The most bytes of a fork, and the most bytes of all resources with their lengths.
 pub(crate) const MAX_FORK: usize = Limits::FORMAT.fork as usize;
-
-pub(crate) const MAX_ROWS: usize = Limits::FORMAT.rows as usize;
 
 const MAX_BYTES: usize = Limits::FORMAT.bytes as usize;
 
@@ -81,6 +79,7 @@ fn check_types(fork: &[u8], parts: Parts) -> Result<Plan, Fault>
         data,
         types: Types { place, count },
         mended: false,
+        crowded: false,
     })
 }
 
@@ -152,7 +151,7 @@ fn find_list(fork: &[u8], plan: &Plan) -> Option<Fault>
     None
 }
 
-/// How many references there are, if they are too many.
+/// How many references there are, if they are more than the map has room for. No reference itself is looked at.
 pub(crate) fn find_count(fork: &[u8], plan: &Plan) -> Option<Fault>
     requires { IsTold fork.now plan.now }
     ensures some { IfSome result (IsFault fork.now) }
@@ -161,12 +160,14 @@ pub(crate) fn find_count(fork: &[u8], plan: &Plan) -> Option<Fault>
     ensures none { IfNone result (HoldsWithin format_limits condition.RowCount fork.now) }
 {
     let map = plan.map.of(fork);
-    let mut total = 0;
-    for i in 0..plan.types.count {
-        total += told_list(map, plan.types, i).count;
-    }
-    if total > MAX_ROWS {
-        Some(Fault::RowCount(total))
+    let count = told_count(map, plan.types);
+    let most = plan.most_rows(fork);
+    if count > most {
+        Some(Fault::RowCount(Excess {
+            count,
+            map_length: map.len(),
+            most,
+        }))
     } else {
         None
     }

@@ -16,7 +16,7 @@ mod reference;
 mod salvage;
 
 pub use check::all_faults;
-pub use fault::{BadList, BadRow, Fault, SameType};
+pub use fault::{BadList, BadRow, Excess, Fault, SameType};
 pub use first::first_fault;
 pub use found::FoundRow;
 pub use laws::salvage_laws;

@@ -2,11 +2,12 @@
 
 ghost use Rattle.std.specs.Prelude.{◌≡◌, ◌<◌, ◌≤◌, ◌+◌, ◌*◌, ◌^◌, length, IfSome, IfNone, IsTrue, true, false};
 ghost use Rattle.fork_salvage.specs.Plans.{IsPlan, IsTypes, IsWithin};
-ghost use Rattle.fork_salvage.specs.Salvage.{parts_at, told_plan, told_types, may_be_told, is_copy, lies_within, parts_beside, mended_parts, stretched, fits, clipped, types_found, types_before_lists, mended_types, mended_plan};
+ghost use Rattle.fork_salvage.specs.Salvage.{parts_at, told_plan, told_types, may_be_told, is_copy, is_crowded, lies_within, most_listed, parts_beside, mended_parts, stretched, fits, clipped, types_found, types_before_lists, mended_types, mended_plan};
 
-use crate::entry::{ENTRY_LENGTH, Types, next_start, told_list};
+use crate::entry::{ENTRY_LENGTH, Types, next_start, told_count, told_list};
 use crate::number::{read_count, read_four, read_two};
 use crate::place::{Parts, Span};
+use fork_bytes::layout::Limits;
 
 /// How many bytes the header of a fork has.
 pub(crate) const HEADER_LENGTH: usize = 16;
@@ -18,13 +19,32 @@ pub(crate) const MAP_HEADER_LENGTH: usize = 28;
 const USUAL_PLACE: usize = 28;
 
 /// How a fork is read: where its map and its data are taken to be, its type list in the map, and whether lists of
-/// references that aren't whole are looked for between the lists beside them.
+/// references that aren't whole are looked for between the lists beside them. In a crowded map all are, since its lists
+/// have more references than it has room for.
 #[derive(Clone, Copy)]
 pub(crate) struct Plan {
     pub(crate) map: Span,
     pub(crate) data: Span,
     pub(crate) types: Types,
     pub(crate) mended: bool,
+    pub(crate) crowded: bool,
+}
+
+impl Plan {
+    /// How many references of a fork are looked at: no more than its map has room for.
+    pub(crate) fn most_rows(&self, fork: &[u8]) -> usize
+        ensures { result ≡ most_listed fork.now self.now }
+    {
+        Limits::FORMAT.most_rows(self.map.of(fork).len())
+    }
+}
+
+/// Whether the lists of references of a map have more of them than it has room for.
+fn is_crowded(map: &[u8], types: Types) -> bool
+    requires { IsTypes map.now types }
+    ensures { result ≡ is_crowded map.now types }
+{
+    told_count(map, types) > Limits::FORMAT.most_rows(map.len())
 }
 
 /// The parts that the header at an offset of the fork says.
@@ -76,6 +96,7 @@ pub(crate) fn told_plan(fork: &[u8]) -> Option<Plan>
         data,
         types,
         mended: false,
+        crowded: false,
     })
 }
 
@@ -276,10 +297,12 @@ pub(crate) fn mended_plan(fork: &[u8]) -> Plan
     ensures within { IsPlan fork.now result }
 {
     let Parts { map, data } = stretched(fork.len(), mended_parts(fork));
+    let types = mended_types(map.of(fork));
     Plan {
         map,
         data,
-        types: mended_types(map.of(fork)),
+        types,
         mended: true,
+        crowded: is_crowded(map.of(fork), types),
     }
 }

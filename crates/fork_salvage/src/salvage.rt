@@ -33,6 +33,8 @@ pub struct LostRow {
 pub enum Item {
     Row(FoundRow),
     Lost(LostRow),
+    /// There are more references than the map has room for: those after the ones before it are left out.
+    More,
     /// Bytes after their length, as a resource has them, in a fork in which no type is found.
     Run(Span),
 }
@@ -44,12 +46,13 @@ struct Chain {
     most: usize,
 }
 
-/// What is left to be read of a fork. A contract sees the list of items.
+/// What is left to be read of a fork, with as many references as it has room for. A contract sees the list of items.
 #[derive(Drop)]
 pub struct Salvage<'a> {
     fork: &'a [u8],
     plan: Plan,
     cursor: Cursor,
+    room: usize,
     chain: Chain,
 }
 
@@ -60,14 +63,15 @@ impl<'a> Model for Salvage<'a> {
 
     ghost Value = { List Item };
 
-    ghost view = { λ s. items_left s.fork.now s.plan s.cursor s.chain };
+    ghost view = { λ s. items_left s.fork.now s.plan s.cursor s.room s.chain };
 
     ghost invariant = { λ s. IsPlan s.fork.now s.plan × IsCursor s.plan s.cursor };
 }
 
 impl<'a> Salvage<'a> {
-    /// All that can be read of a fork, and what can't be, in the map's order: an item for each reference. Where no type
-    /// is found in a damaged fork, the runs of its data.
+    /// All that can be read of a fork, and what can't be, in the map's order: an item for each reference. Where lists
+    /// overlap so that there are more of them than the map has room for, the last item says that the others are left
+    /// out. Where no type is found in a damaged fork, the runs of its data.
     pub fn new(fork: &'a [u8]) -> Salvage<'a>
         ensures { result ≡ items fork.now }
     {
@@ -76,6 +80,7 @@ impl<'a> Salvage<'a> {
             fork,
             plan,
             cursor: Cursor::new(),
+            room: plan.most_rows(fork),
             chain: chain_of(fork, &plan),
         }
     }
@@ -85,7 +90,14 @@ impl<'a> Salvage<'a> {
         ensures { MatchOption result ((self.old ≡ []) × (self.new ≡ [])) (λ item. self.old ≡ item ∷ self.new) }
     {
         match self.cursor.next(self.fork, &self.plan) {
-            Some(reference) => Some(item_of(self.fork, &self.plan, reference)),
+            Some(_) if self.room == 0 => {
+                self.cursor = Cursor::after(&self.plan);
+                Some(Item::More)
+            }
+            Some(reference) => {
+                self.room -= 1;
+                Some(item_of(self.fork, &self.plan, reference))
+            }
             None => self.chain.next(self.fork),
         }
     }

@@ -1,3 +1,4 @@
 pub mod Steps
 pub mod Lengths
 pub mod ReadBack
+pub mod Stopping

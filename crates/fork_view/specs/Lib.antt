@@ -7,3 +7,4 @@ pub mod Reader
 pub mod Laws
 pub mod Forms
 pub mod Sights
+pub mod Unpacking

@@ -1,14 +1,18 @@
 //! The resources of a fork written to a folder.
 
+ghost use Rattle.std.specs.Prelude.{◌≡◌, None, IfOk, codes, map, option_map};
+ghost use Rattle.file_replace.specs.NewFolder.{Makes, with_file, with_folder};
+ghost use Rattle.fork_folder.specs.Unpacked.{unpacked, unpacked_file};
+ghost use Rattle.fork_view.specs.Unpacking.{Unpacks, all_calls, entered, files_calls, opened_folder, with_unpacked};
+
 use crate::manifest::manifest_of;
+use file_replace::{FolderCalls, InnerFolder, NewFolder, NoNewFolder};
 use fork_bytes::table::Table;
 use fork_folder::files::File as Unpacked;
 use fork_folder::unpacked;
 use mac_base::resource::ResType;
 use std::alloc::{AllocError, Global};
-use std::fs::File;
-use std::io::{ErrorKind, Write};
-use std::{fs, io};
+use std::io;
 use thiserror::Error;
 
 /// The file that says what isn't in the files of the resources.
@@ -28,6 +32,12 @@ pub enum NotUnpacked {
     /// There is a folder, and it isn't empty.
     #[error("not unpacked: there are files in {0}, and nothing is overwritten; name a new folder")]
     NotEmpty(String),
+    /// There is a folder of another user, and others than its owner may write there.
+    #[error("not unpacked: {0} belongs to another user, and others may write there; name a new folder")]
+    Shared(String),
+    /// There is no `/proc` as Linux has it.
+    #[error("not unpacked: /proc, by which all is made in the folder that is open, isn't there: {0}")]
+    NoProc(io::Error),
     /// A folder can't be made, or not be looked into.
     #[error("not unpacked: the folder {folder} can't be made: {error}")]
     NoFolder { folder: String, error: io::Error },
@@ -45,94 +55,181 @@ impl From<AllocError> for NotUnpacked {
     }
 }
 
-/// Whether a folder has nothing in it.
-fn is_empty(rt: &HostRuntime, folder: &str) -> io::Result<bool> {
-    let mut entries = fs::read_dir(rt, folder)?;
-    Ok(entries.next().is_none())
-}
-
-/// Makes the folder that is unpacked to. One that is there must be empty.
-fn make_outer(rt: &HostRuntime, folder: &str) -> Result<(), NotUnpacked> {
-    let alloc = rt.alloc();
-    let error = match fs::create_dir(rt, folder) {
-        Ok(()) => return Ok(()),
-        Err(error) => error,
+/// Why the folder that is unpacked to isn't one.
+fn no_outer(alloc: Global, folder: &str, why: NoNewFolder) -> NotUnpacked {
+    let Ok(folder) = String::from_str(alloc, folder) else {
+        return NotUnpacked::HostFull;
     };
-    let folder_name = String::from_str(alloc, folder)?;
-    if error.kind() != ErrorKind::AlreadyExists {
-        return Err(NotUnpacked::NoFolder {
-            folder: folder_name,
-            error,
-        });
-    }
-    match is_empty(rt, folder) {
-        Ok(true) => Ok(()),
-        Ok(false) => Err(NotUnpacked::NotEmpty(folder_name)),
-        Err(error) => Err(NotUnpacked::NoFolder {
-            folder: folder_name,
-            error,
-        }),
+    match why {
+        NoNewFolder::NotEmpty => NotUnpacked::NotEmpty(folder),
+        NoNewFolder::Shared => NotUnpacked::Shared(folder),
+        NoNewFolder::NoProc(error) => NotUnpacked::NoProc(error),
+        NoNewFolder::Host(error) => NotUnpacked::NoFolder { folder, error },
     }
 }
 
-/// Makes the folder of a type. It may be there.
-fn make_inner(rt: &HostRuntime, folder: String) -> Result<(), NotUnpacked> {
-    match fs::create_dir(rt, folder.as_str()) {
-        Err(error) if error.kind() != ErrorKind::AlreadyExists => {
-            Err(NotUnpacked::NoFolder { folder, error })
+/// The folder of a type isn't made.
+fn no_inner(alloc: Global, outer: &str, kind: &str, error: io::Error) -> NotUnpacked {
+    match format!(in alloc; "{outer}/{kind}") {
+        Ok(folder) => NotUnpacked::NoFolder { folder, error },
+        Err(_) => NotUnpacked::HostFull,
+    }
+}
+
+/// The file of a resource isn't written.
+fn no_file(alloc: Global, outer: &str, file: &Unpacked<'_>, error: io::Error) -> NotUnpacked {
+    let kind = file.folder.as_str();
+    let name = file.name.as_str();
+    match format!(in alloc; "{outer}/{kind}/{name}") {
+        Ok(file) => NotUnpacked::NoFile { file, error },
+        Err(_) => NotUnpacked::HostFull,
+    }
+}
+
+/// The manifest isn't written.
+fn no_manifest(alloc: Global, outer: &str, error: io::Error) -> NotUnpacked {
+    match format!(in alloc; "{outer}/{MANIFEST}") {
+        Ok(file) => NotUnpacked::NoFile { file, error },
+        Err(_) => NotUnpacked::HostFull,
+    }
+}
+
+/// A folder that is unpacked to, and what it's named.
+#[derive(Drop)]
+struct Outer<'a> {
+    alloc: Global,
+    name: &'a str,
+    folder: NewFolder<'a>,
+}
+
+impl<'a> Outer<'a> {
+    /// Makes the folder that is unpacked to, or opens one that is there.
+    fn begin(
+        rt: &'a HostRuntime,
+        name: &'a str,
+        log: &mut FolderCalls,
+    ) -> Result<Outer<'a>, NotUnpacked>
+        ensures { Makes result (opened_folder name.now log.old.events) log.old.events log.new.events }
+    {
+        let alloc = rt.alloc();
+        match NewFolder::begin(rt, name, log) {
+            Ok(folder) => Ok(Outer {
+                alloc,
+                name,
+                folder,
+            }),
+            Err(why) => Err(no_outer(alloc, name, why)),
         }
-        _ => Ok(()),
     }
-}
 
-/// Writes a file that isn't there yet.
-fn write_new(rt: &HostRuntime, file: &str, bytes: &[u8]) -> io::Result<()> {
-    let mut out = File::create_new(rt, file)?;
-    out.write_all(bytes)
-}
-
-/// Writes a file of this name in the folder.
-fn write_file(rt: &HostRuntime, file: String, bytes: &[u8]) -> Result<(), NotUnpacked> {
-    match write_new(rt, file.as_str(), bytes) {
-        Ok(()) => Ok(()),
-        Err(error) => Err(NotUnpacked::NoFile { file, error }),
-    }
-}
-
-/// Writes the files of resources, and makes their folders.
-fn write_files(rt: &HostRuntime, folder: &str, files: &[Unpacked<'_>]) -> Result<(), NotUnpacked> {
-    let alloc = rt.alloc();
-    let mut last = "";
-    for file in files {
-        let kind = file.folder.as_str();
-        let name = file.name.as_str();
-        if kind != last {
-            make_inner(rt, format!(in alloc; "{folder}/{kind}")?)?;
-            last = kind;
+    /// A new folder for a type.
+    fn new_inner(
+        &self,
+        kind: &'a str,
+        log: &mut FolderCalls,
+    ) -> Result<InnerFolder<'a>, NotUnpacked>
+        ensures name { IfOk result (λ inner. inner.name.now ≡ kind.now) }
+        ensures made { Makes result (with_folder kind.now log.old.events) log.old.events log.new.events }
+    {
+        match self.folder.make_folder(kind, log) {
+            Ok(inner) => Ok(inner),
+            Err(error) => Err(no_inner(self.alloc, self.name, kind, error)),
         }
-        let path = format!(in alloc; "{folder}/{kind}/{name}")?;
-        write_file(rt, path, file.row.datum.as_slice())?;
     }
-    Ok(())
+
+    /// The folder of a type that is open, or where that is another, a new one.
+    fn inner(
+        &self,
+        latest: Option<InnerFolder<'a>>,
+        kind: &'a str,
+        log: &mut FolderCalls,
+    ) -> Result<InnerFolder<'a>, NotUnpacked>
+        ensures name { IfOk result (λ inner. inner.name.now ≡ kind.now) }
+        ensures made { Makes result (entered (option_map (λ inner. inner.name.now) latest.entry) kind.now log.old.events) log.old.events log.new.events }
+    {
+        let Some(inner) = latest else {
+            return self.new_inner(kind, log);
+        };
+        if inner.name == kind {
+            Ok(inner)
+        } else {
+            self.new_inner(kind, log)
+        }
+    }
+
+    /// Makes the file of a resource, in the folder of its type.
+    fn write(
+        &self,
+        latest: Option<InnerFolder<'a>>,
+        file: &'a Unpacked<'a>,
+        log: &mut FolderCalls,
+    ) -> Result<InnerFolder<'a>, NotUnpacked>
+        ensures name { IfOk result (λ inner. inner.name.now ≡ (unpacked_file file.now).folder) }
+        ensures made { Makes result (with_unpacked (option_map (λ inner. inner.name.now) latest.entry) (unpacked_file file.now) log.old.events) log.old.events log.new.events }
+    {
+        let inner = self.inner(latest, file.folder.as_str(), log)?;
+        match inner.write_file(file.name.as_str(), file.row.datum.as_slice(), log) {
+            Ok(()) => Ok(inner),
+            Err(error) => Err(no_file(self.alloc, self.name, file, error)),
+        }
+    }
+
+    /// Makes the files of resources, and their folders.
+    fn write_all(&self, files: &'a [Unpacked<'a>], log: &mut FolderCalls) -> Result<(), NotUnpacked>
+        ensures { Makes result (files_calls None (map unpacked_file files.now) log.old.events) log.old.events log.new.events }
+    {
+        let mut latest = None;
+        for file in files {
+            latest = Some(self.write(latest, file, log)?);
+        }
+        Ok(())
+    }
+
+    /// Makes the manifest, of this text.
+    fn write_manifest(&self, text: &str, log: &mut FolderCalls) -> Result<(), NotUnpacked>
+        ensures { Makes result (with_file (codes "resources.json") text.now log.old.events) log.old.events log.new.events }
+    {
+        match self.folder.write_file(MANIFEST, text.as_bytes(), log) {
+            Ok(()) => Ok(()),
+            Err(error) => Err(no_manifest(self.alloc, self.name, error)),
+        }
+    }
+}
+
+/// Writes these files to a new folder or an empty one, and at last a manifest of this text.
+fn write_files<'a>(
+    rt: &'a HostRuntime,
+    folder: &'a str,
+    files: &'a [Unpacked<'a>],
+    text: &str,
+    log: &mut FolderCalls,
+) -> Result<(), NotUnpacked>
+    ensures { Makes result (all_calls folder.now (map unpacked_file files.now) text.now log.old.events) log.old.events log.new.events }
+{
+    let outer = Outer::begin(rt, folder, log)?;
+    outer.write_all(files, log)?;
+    outer.write_manifest(text, log)
 }
 
 /// Writes the resources of a table to a new folder or an empty one, and at last `resources.json`: where that is, all is
-/// there.
+/// there. A folder that is there must be empty, and no other user's in which others may write. Each folder of a type and
+/// each file is made anew, in the folder that is open; what is there already is refused, and no link is followed. Each
+/// call of the system is noted with its answer, in a record that only clauses read.
 pub fn unpack(
     rt: &HostRuntime,
     unpacking: &Unpacking<'_>,
     file: &[u8],
     table: &Table<'_>,
-) -> Result<(), NotUnpacked> {
+    log: &mut FolderCalls,
+) -> Result<(), NotUnpacked>
+    ensures { Unpacks unpacking.now.folder.now (unpacked unpacking.now.kinds.items table.now.rows) result log.old.events log.new.events }
+{
     let alloc = rt.alloc();
-    let folder = unpacking.folder;
     let files = unpacked(alloc, unpacking.kinds.as_slice(), table.rows.as_slice())?;
-    let manifest = manifest_of(alloc, file, table, files.as_slice())?;
+    let listed = files.as_slice();
+    let manifest = manifest_of(alloc, file, table, listed)?;
     let Ok(text) = serde_json::to_string_pretty(alloc, &manifest) else {
         return Err(NotUnpacked::HostFull);
     };
-    make_outer(rt, folder)?;
-    write_files(rt, folder, files.as_slice())?;
-    let path = format!(in alloc; "{folder}/{MANIFEST}")?;
-    write_file(rt, path, text.as_bytes())
+    write_files(rt, unpacking.folder, listed, text.as_str(), log)
 }

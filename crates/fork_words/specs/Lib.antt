@@ -1,3 +1,4 @@
 pub mod Inputs
 pub mod Kinds
 pub mod Asks
+pub mod Sizes

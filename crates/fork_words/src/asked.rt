@@ -7,6 +7,7 @@ ghost use Rattle.fork_words.specs.Kinds.{IsKindRefused, NameKinds, NamesKind};
 
 use crate::command::program;
 use crate::fault::Fault;
+use crate::size::{LIMIT, limit_of};
 use crate::work::{Work, work_of};
 use clap::ArgMatches;
 use clap::error::ErrorKind;
@@ -74,6 +75,13 @@ pub enum Asked<'a> {
     Tell(clap::Error),
 }
 
+/// What the words ask for, and how many bytes of a file are read for it at most.
+#[derive(Drop)]
+pub struct Command<'a> {
+    pub asked: Asked<'a>,
+    pub limit: u64,
+}
+
 /// Why the words ask for nothing. What it shows are whole lines.
 #[derive(Debug, Drop, Error)]
 pub enum NotAsked {
@@ -111,24 +119,38 @@ impl From<Fault> for NotAsked {
 }
 
 /// What the words ask for, of which the first is the program's name.
-pub fn asked_by<'a, S: AsStr>(alloc: Global, words: &'a [S]) -> Result<Asked<'a>, NotAsked>
-    ensures fit { IfOk result IsFit }
+pub fn asked_by<'a, S: AsStr>(alloc: Global, words: &'a [S]) -> Result<Command<'a>, NotAsked>
+    ensures fit { IfOk result (λ command. IsFit command.asked) }
     ensures fault { IfErr result IsFault }
 {
     match program(alloc)?.try_get_matches_from(words) {
         Ok(matches) => asked_of(alloc, &matches),
-        Err(error) => not_matched(error),
+        Err(error) => Ok(Command {
+            asked: not_matched(error)?,
+            limit: LIMIT,
+        }),
     }
 }
 
-/// What the command asks for.
-fn asked_of<'a>(alloc: Global, matches: &ArgMatches<'a>) -> Result<Asked<'a>, NotAsked>
-    ensures fit { IfOk result IsFit }
+/// What a command and its words ask for.
+fn asked_of<'a>(alloc: Global, matches: &ArgMatches<'a>) -> Result<Command<'a>, NotAsked>
+    ensures fit { IfOk result (λ command. IsFit command.asked) }
     ensures fault { IfErr result IsFault }
 {
     let Some((name, matches)) = matches.subcommand() else {
         return Err(NotAsked::Fault(Fault::NoCommand));
     };
+    Ok(Command {
+        limit: limit_of(matches)?,
+        asked: asked_for(alloc, name, matches)?,
+    })
+}
+
+/// What the command of this name asks for.
+fn asked_for<'a>(alloc: Global, name: &str, matches: &ArgMatches<'a>) -> Result<Asked<'a>, NotAsked>
+    ensures fit { IfOk result IsFit }
+    ensures fault { IfErr result IsFault }
+{
     match name {
         "ls" => asked_to_list(alloc, matches),
         "get" => asked_to_get(alloc, matches),

@@ -285,6 +285,8 @@ const WORDS: &[Word] = &[
         "Says what would be done, and writes nothing"),
     word!("put" "rm" "set" "cp" "pack" "rez" "convert", "quiet", Form::Short('q', "quiet"), Values::Flag;
         "Doesn't say what was done"),
+    word!("ls" "get" "info" "check" "salvage" "show" "unpack" "put" "rm" "set" "cp" "diff" "pack" "derez" "rez" "convert", "limit", Form::Long("limit"), Values::One("SIZE");
+        "Refuses a file of more bytes than this: a number, which K, M or G after it counts in 1024s; else 1G"),
     word!("ls" "info" "check", "file", Form::Operand, Values::Many("FILE"), is_required: true;
         "The files; - is the standard input"),
     word!("get" "salvage" "show" "unpack" "put" "rm" "set" "derez" "rez", "file", Form::Operand, Values::One("FILE"), is_required: true;

@@ -38,6 +38,9 @@ pub enum Fault {
     /// What `--nth` has is no count from 1 on.
     #[error("--nth takes a count from 1 on")]
     NoCount,
+    /// What `--limit` has is no size.
+    #[error("--limit takes a number of bytes, or one with K, M or G after it, which counts in 1024s")]
+    NoSize,
     /// What `--to` has is no container.
     #[error("--to takes raw, appledouble, applesingle, macbinary or binhex")]
     NoContainer,

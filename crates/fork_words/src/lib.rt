@@ -4,6 +4,7 @@
 pub mod asked;
 mod command;
 pub mod fault;
+pub mod size;
 pub mod work;
 
 /// The word for the standard input, in place of a file's name.

@@ -31,7 +31,8 @@ FailsAt k before now = Rose (slice_index before (k - 1)) (slice_index now (k - 1
 -- From a zone and files, the call ends so and leaves these: just as the Resource Manager makes it, where the
 -- grow-zone procedure gives the answers that are left, first in, first out, and takes them from the front. A device
 -- is memory, which fails only where the host has none for a longer fork. A file that was updated with success reads
--- back as the table that was saved. What is lent stays where it is, and what waits to be lent waits on.
+-- back as the table that was saved. What is lent stays where it is, what waits to be lent waits on, and the
+-- guest's fields of the zone's header stay.
 pub record StepsOnForks (old : State) (old_files : ForksState) (call : ResourceCall) (outcome : Outcome) (new : State) (new_files : ForksState) : Type 0 where
   pub device : Device
   pub step : ResourceStepBy (StepsFrom old.left new.left) (read_truly IsPartly) device (resource_state old old_files) call new.asks
@@ -42,6 +43,7 @@ pub record StepsOnForks (old : State) (old_files : ForksState) (call : ResourceC
   pub reads_back : ReadsBack (λ k. ⊤) (resource_state old old_files) call outcome (resource_state new new_files)
   pub loans : new.loans ≡ old.loans
   pub waiting : new.waiting ≡ old.waiting
+  pub guest : new.guest ≡ old.guest
   pub lent : StaysLent old.zone new.zone
 
 -- From a zone and files, a call that seeks a resource otherwise than by its id ends so and leaves these: where it finds
@@ -56,6 +58,7 @@ pub record SeeksOnForks (old : State) (old_files : ForksState) (call : SeekingCa
   pub taken : old.left ≡ answers_in new.asks ++ new.left
   pub loans : new.loans ≡ old.loans
   pub waiting : new.waiting ≡ old.waiting
+  pub guest : new.guest ≡ old.guest
   pub lent : StaysLent old.zone new.zone
 
 -- The host has no memory for a call that takes some and isn't refused: the answer is memFullErr, and nothing has

@@ -1,5 +1,8 @@
 pub mod AsBefore
 pub mod Filled
+pub mod Guests
+pub mod Headers
+mod Keeping
 pub mod Lendable
 pub mod LentAgain
 pub mod Made

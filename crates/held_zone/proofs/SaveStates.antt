@@ -10,7 +10,7 @@ use Rattle.mac_base.specs.Sound.{Sound}
 use Rattle.mac_base.specs.ZoneSizes.{ZoneSizes, ArePossible}
 use Rattle.mac_base.specs.ZoneState.{ZoneState, woken_in}
 use Rattle.raw_region.specs.State.{State as Region}
-use Rattle.held_zone.specs.Asleep.{awake_in, new_loans, with_these_lent}
+use Rattle.held_zone.specs.Asleep.{awake_as, new_loans, with_these_lent}
 use Rattle.held_zone.specs.Attaching.{IsIdle, IsZoneOf}
 use Rattle.held_zone.specs.State.{State}
 use Rattle.held_zone.proofs.LentAgain.{lent-none}
@@ -29,12 +29,12 @@ restored_same old image new sound none possible long is made =
 -- bytes have the structure of the zone that is attached in them, and it is awake in them with the contents and flags
 -- that it had
 pub attached_wakes : (sizes : ZoneSizes) (r : Region) (s : State) → IsZoneIn sizes r.bytes s.zone → IsIdle s
-    → HasStructure s.zone r.bytes × (awake_in r s ≡ record s { zone = record s.zone { memory = woken_in s.zone.memory r.name } })
+    → HasStructure s.zone r.bytes × (awake_as r s ≡ record s { zone = record s.zone { memory = woken_in s.zone.memory r.name } })
 attached_wakes sizes r s zone idle =
     let same = own-shown s.zone zone.sound zone.nothing_lent r.bytes zone.inside in
     let none : with_these_lent s.waiting (shown s.zone r.bytes).heap ≡ s.zone.heap =
     (λ i. with_these_lent (idle.waiting i) (same i).heap) ∙ lent-none s.zone.heap zone.nothing_lent in
     let loans : new_loans (shown s.zone r.bytes).heap.table s.waiting ≡ s.loans = ap (new_loans (shown s.zone r.bytes).heap.table) idle.waiting ∙ sym idle.loans in (
       own-structure s.zone zone.sound zone.nothing_lent r.bytes zone.inside,
-      λ i. record { zone = record s.zone { memory = woken_in s.zone.memory r.name; heap = none i }; loans = loans i; left = s.left; asks = s.asks; waiting = sym idle.waiting i },
+      λ i. record { zone = record s.zone { memory = woken_in s.zone.memory r.name; heap = none i }; loans = loans i; left = s.left; asks = s.asks; waiting = sym idle.waiting i; guest = s.guest },
     )

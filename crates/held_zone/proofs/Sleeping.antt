@@ -7,7 +7,7 @@ use Rattle.zone_laws.proofs.Tables.{eqb_same}
 use Rattle.held_calls.specs.declared.loans.Held.{Held}
 use Rattle.held_calls.specs.Holding.{Holds, is_held}
 use Rattle.raw_region.specs.State.{State as Region}
-use Rattle.held_zone.specs.Asleep.{FallsAsleep, all_back, awake_in, new_loans, with_these_lent}
+use Rattle.held_zone.specs.Asleep.{FallsAsleep, all_back, awake_as, new_loans, with_these_lent}
 use Rattle.held_zone.specs.State.{State}
 
 -- the block of the first that is held is lent
@@ -30,11 +30,12 @@ lent_again s =
     record s { zone = record s.zone { heap = with_these_lent blocks heap }; loans = new_loans heap.table blocks; waiting = [] }
 
 -- a zone that falls asleep and wakes in the same bytes is as it was, once what was lent came back and was lent again
-pub as_it_was : (old : State) (r : Region) (new : State) → FallsAsleep old r new → r.name ≡ old.zone.memory.region → awake_in r new ≡ lent_again old
+pub as_it_was : (old : State) (r : Region) (new : State) → FallsAsleep old r new → r.name ≡ old.zone.memory.region → awake_as r new ≡ lent_again old
 as_it_was old r new falls place = λ i. record {
   zone = record (falls.as_before i) { memory = record { region = place i; kept = sym falls.kept i }; heap = with_these_lent (falls.waiting i) (falls.as_before i).heap };
   loans = new_loans (falls.as_before i).heap.table (falls.waiting i);
   left = falls.left i;
   asks = falls.asks i;
   waiting = [];
+  guest = falls.guest i;
 }

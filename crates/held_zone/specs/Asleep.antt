@@ -16,6 +16,7 @@ use Rattle.raw_region.specs.State.{State as Region}
 use Rattle.raw_region.specs.declared.host.HostBytes.{HostBytes}
 use Rattle.held_zone.specs.declared.waking.WhyAsleep.{WhyAsleep}
 use Rattle.held_zone.specs.declared.waking.WhyAsleep.TheVariants.{Damaged, Unlocked}
+use Rattle.held_zone.specs.Fields.{fields_in, managed_in}
 use Rattle.held_zone.specs.State.{State}
 
 -- the region that the host's bytes are, if they are here
@@ -57,16 +58,20 @@ pub record CanBeLent (z : ZoneState) (xs : List ℕ) : Type 0 where
 abbrev pub all_lendable : State → List ℕ → Bool
 all_lendable s bytes = list_all (is_lendable (shown s.zone bytes)) s.waiting
 
--- the zone awake in a region that has its structure: with the contents and flags that the region's bytes have, and with
--- the blocks lent that waited
-abbrev pub awake_in : Region → State → State
-awake_in r s =
+-- the zone awake in a region as the Memory Manager has it, with its structure: with the contents and flags that the
+-- region's bytes have, and with the blocks lent that waited
+abbrev pub awake_as : Region → State → State
+awake_as r s =
     let z = shown s.zone r.bytes in
     record s {
       zone = record z { memory = woken_in s.zone.memory r.name; heap = with_these_lent s.waiting z.heap };
       loans = new_loans z.heap.table s.waiting;
       waiting = [];
     }
+
+-- the zone awake in a region of a guest: it is that, with the fields that the guest left in the header
+abbrev pub awake_in : Region → State → State
+awake_in r s = record (awake_as (managed_in r) s) { guest = fields_in r.bytes }
 
 -- why a zone sleeps on: bytes haven't its structure; or they have, and a block that waits is no pointer's there and no
 -- locked handle's, so it may not be lent
@@ -96,6 +101,7 @@ pub record FallsAsleep (old : State) (r : Region) (new : State) : Type 0 where
   pub waiting : new.waiting ≡ map (λ loan. loan.0) old.loans
   pub left : new.left ≡ old.left
   pub asks : new.asks ≡ old.asks
+  pub guest : new.guest ≡ old.guest
   pub asleep : IsAsleep new
 
 -- the table in which lent blocks have the bytes of their loans. They are lent still
@@ -107,10 +113,19 @@ with_loans (loan ∷ loans) t = with_loans loans (with_bytes loan.0 loan.1 t)
 abbrev pub as_left : State → State
 as_left s = record s { zone = with_heap (with_table (with_loans s.loans s.zone.heap.table) s.zone.heap) s.zone }
 
--- a zone that fell asleep wakes in the bytes that it left, and nothing refuses it there: what waits may be lent. It is
--- as it was then, with the same blocks lent in the same order, and with the bytes that C left in them
+-- a zone that fell asleep wakes in a region as the Memory Manager left it, and nothing refuses it there: what waits may
+-- be lent. It is as it was then, with the same blocks lent in the same order, and with the bytes that C left in them
 pub record WakesAsBefore (old : State) (r : Region) (new : State) : Type 0 where
   pub may : IsTrue (all_lendable new r.bytes)
+  pub awake : awake_as r new ≡ as_left old
+
+-- the new zone is the old one asleep, and the region is given back to its guest: the fields in the header are those that
+-- the guest left when the zone woke, all else is as the Memory Manager left it, and the zone wakes there as it was
+pub record IsGivenBack (old : State) (r : Region) (new : State) : Type 0 where
+  pub fields : fields_in r.bytes ≡ old.guest
+  pub place : IsInRegion (all_back old) (managed_in r)
+  pub asleep : FallsAsleep old (managed_in r) new
+  pub again : WakesAsBefore old (managed_in r) new
   pub awake : awake_in r new ≡ as_left old
 
 -- a region has the structure of a zone, with the zone's flags, and is the one that was given: all other bytes are as

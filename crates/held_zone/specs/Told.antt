@@ -69,16 +69,17 @@ pub record StaysLent (old new : ZoneState) : Type 0 where
   pub keeps : KeepsLoans old new
 
 -- From a state, the call ends so and leaves this one: just as the Memory Manager makes it, where the procedure gives
--- the answers that are left, first in, first out. What is lent stays where it is, and what waits to be lent waits on.
+-- the answers that are left, first in, first out. What is lent stays where it is, what waits to be lent waits on, and the guest's fields
+-- stay.
 abbrev pub Makes : State → MemoryCall → Outcome → State → Type 0
 Makes old call outcome new = (exact_step old.zone.shape old.left old.zone.heap call ≡ record { outcome = outcome; heap = new.zone.heap; asks = new.asks; left = new.left })
-    × (new.zone.shape ≡ old.zone.shape) × (new.loans ≡ old.loans) × (new.waiting ≡ old.waiting) × StaysLent old.zone new.zone
+    × (new.zone.shape ≡ old.zone.shape) × (new.loans ≡ old.loans) × (new.waiting ≡ old.waiting) × (new.guest ≡ old.guest) × StaysLent old.zone new.zone
 
 -- The same for a call on a block that is lent or is to be lent, which asks nothing. The zone stays where it is in the
 -- memory of the host.
 abbrev pub MakesLoan : State → LoanCall → Outcome → State → Type 0
 MakesLoan old call outcome new = LoanStep old.zone.shape old.loans old.zone.heap call outcome new.loans new.zone.heap
-    × (new.zone.shape ≡ old.zone.shape) × (new.zone.memory ≡ old.zone.memory) × (new.left ≡ old.left) × (new.asks ≡ []) × (new.waiting ≡ old.waiting)
+    × (new.zone.shape ≡ old.zone.shape) × (new.zone.memory ≡ old.zone.memory) × (new.left ≡ old.left) × (new.asks ≡ []) × (new.waiting ≡ old.waiting) × (new.guest ≡ old.guest)
 
 -- The same where there may be no zone: then there is no outcome.
 abbrev pub Called : Option State → MemoryCall → Option Outcome → Option State → Type 0

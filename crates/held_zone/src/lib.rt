@@ -3,10 +3,12 @@
 
 pub mod asleep;
 mod attaching;
+pub mod fields;
 mod lending_again;
 mod lent;
 pub mod memory;
 pub mod parked;
+mod repairing;
 pub mod session;
 pub mod told;
 pub mod waking;

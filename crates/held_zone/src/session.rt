@@ -2,6 +2,7 @@
 
 ghost use Rattle.std.specs.Prelude.{◌≡◌, []};
 
+use crate::fields::GuestFields;
 use crate::lent;
 use arrayvec::ArrayVec;
 use held_calls::answers::{AnswerQueue, MOST_ASKS, MadeAsk};
@@ -18,13 +19,14 @@ use std::marker::Model;
 /// How many answers may wait.
 const MOST_WAITING: usize = 16;
 
-/// The Memory Manager with its zone, the loans that C has of it, the answers of its grow-zone procedure, and the blocks
-/// that wait while the zone sleeps to be lent again.
+/// The Memory Manager with its zone, the loans that C has of it, the answers of its grow-zone procedure, the blocks that
+/// wait while the zone sleeps to be lent again, and the guest's fields of the zone's header.
 pub struct Session {
     pub memory: MemoryManager,
     pub loans: Loans,
     pub answers: AnswerQueue<MOST_WAITING>,
     pub waiting: ArrayVec<u32, MOST_LOANS>,
+    pub guest: GuestFields,
 }
 
 impl Model for Session {
@@ -33,7 +35,7 @@ impl Model for Session {
 
     ghost Value = { State };
 
-    ghost view = { λ s. record { zone = s.memory; loans = loans_of s.loans; left = s.answers.left; asks = s.answers.asks; waiting = s.waiting.items } };
+    ghost view = { λ s. record { zone = s.memory; loans = loans_of s.loans; left = s.answers.left; asks = s.answers.asks; waiting = s.waiting.items; guest = s.guest } };
 
     ghost invariant = { λ s. Holds s.memory s.loans × WaitAsleep s.memory s.waiting.items };
 }
@@ -46,6 +48,7 @@ impl Drop for Session {
             loans,
             answers,
             waiting,
+            guest: _,
         } = self;
         drop(lending::finish(memory, loans));
         drop(answers);
@@ -78,6 +81,7 @@ impl Session {
             loans: Loans::new(),
             answers,
             waiting: ArrayVec::new(),
+            guest: GuestFields::new(),
         };
         Ok(Box::new(alloc, session)?)
     }

@@ -1,5 +1,6 @@
 //! A session whose zone sleeps, and wakes in bytes of the host.
 
+use crate::fields::put_aside;
 use crate::lending_again;
 use crate::session::Session;
 use held_calls::lending;
@@ -26,15 +27,18 @@ pub struct NotAwake {
 }
 
 impl Session {
-    ghost use Rattle.std.specs.Prelude.{◌≡◌, [], length, IfOk, IfErr, IfSome, IsTrue, OnErr, OnOk};
+    ghost use Rattle.std.specs.Prelude.{◌≡◌, ◌≤◌, [], length, IfOk, IfErr, IfSome, IsTrue, OnErr, OnOk};
+    ghost use Rattle.mac_base.specs.HeadKind.{zone_header};
     ghost use Rattle.std.specs.Result.{result_err};
     ghost use Rattle.linked_zone.specs.Structure.{HasStructure, SameFlags, shown};
     ghost use Rattle.linked_zone.specs.Written.{DifferIn};
-    ghost use Rattle.held_zone.specs.Asleep.{CanBeLent, FallsAsleep, IsAsleep, IsInRegion, IsSettled, SleepsOn, WakesAsBefore, all_back, all_lendable, awake_in, sleep_refusal};
+    ghost use Rattle.held_zone.specs.Asleep.{CanBeLent, FallsAsleep, IsAsleep, IsGivenBack, IsInRegion, IsSettled, SleepsOn, WakesAsBefore, all_back, all_lendable, awake_as, awake_in, sleep_refusal};
+    ghost use Rattle.held_zone.specs.Fields.{managed};
 
     /// How many bytes the zone may have, and its memory has.
     pub fn limit(&self) -> usize
-        ensures { result ≡ self.now.zone.shape.limit }
+        ensures value { result ≡ self.now.zone.shape.limit }
+        ensures large { zone_header ≤ result }
     {
         self.memory.linked().spec().limit() as usize
     }
@@ -53,37 +57,62 @@ impl Session {
         region
     }
 
-    /// Wakes the zone, which sleeps, in a region whose bytes have its structure, and lends the blocks again that wait
-    /// for it. Where one of them is no pointer's and no locked handle's in these bytes, or they haven't the structure,
-    /// it sleeps on, and the region comes back.
+    /// Wakes the zone, which sleeps, in a region whose bytes have its structure, whatever the guest's fields of its
+    /// header say, and lends the blocks again that wait for it. Where one of them is no pointer's and no locked
+    /// handle's in these bytes, or they haven't the structure, it sleeps on, and the region comes back.
     pub fn wake(&mut self, region: Region) -> Result<(), NotAwake>
         requires asleep { IsAsleep self.old }
         requires whole { region.lent ≡ [] }
-        ensures awake { IfOk result (λ u. HasStructure self.old.zone region.bytes × IsTrue (all_lendable self.old region.bytes) × (self.new ≡ awake_in region self.old)) }
-        ensures asleep { IfErr result (λ no. SleepsOn no.why self.old region.bytes × (no.region ≡ region) × (self.new ≡ self.old)) }
+        ensures awake { IfOk result (λ u. HasStructure self.old.zone (managed region.bytes) × IsTrue (all_lendable self.old (managed region.bytes)) × (self.new ≡ awake_in region self.old)) }
+        ensures asleep { IfErr result (λ no. SleepsOn no.why self.old (managed region.bytes) × (no.region ≡ region) × (self.new ≡ self.old)) }
     {
         self.wake_told(region, None)
     }
 
-    /// Wakes the zone as `wake` does, where the region's bytes differ only in these ranges from bytes with the zone's
-    /// structure and flags. Only the zone's header and the blocks that have one of these bytes are compared; where
-    /// flags differ, more master blocks are read.
+    /// Wakes the zone as `wake` does, where the region's bytes, the guest's fields aside, differ only in these ranges
+    /// from bytes with the zone's structure and flags. Only the zone's header and the blocks that have one of these
+    /// bytes are compared; where flags differ, more master blocks are read.
     pub fn wake_written(&mut self, region: Region, written: &[Written]) -> Result<(), NotAwake>
         requires asleep { IsAsleep self.old }
         requires whole { region.lent ≡ [] }
-        requires told { DifferIn self.old.zone region.bytes written.now }
-        ensures awake { IfOk result (λ u. HasStructure self.old.zone region.bytes × IsTrue (all_lendable self.old region.bytes) × (self.new ≡ awake_in region self.old)) }
-        ensures asleep { IfErr result (λ no. SleepsOn no.why self.old region.bytes × (no.region ≡ region) × (self.new ≡ self.old)) }
+        requires told { DifferIn self.old.zone (managed region.bytes) written.now }
+        ensures awake { IfOk result (λ u. HasStructure self.old.zone (managed region.bytes) × IsTrue (all_lendable self.old (managed region.bytes)) × (self.new ≡ awake_in region self.old)) }
+        ensures asleep { IfErr result (λ no. SleepsOn no.why self.old (managed region.bytes) × (no.region ≡ region) × (self.new ≡ self.old)) }
     {
         self.wake_told(region, Some(written))
     }
 
-    /// Wakes the zone in a region, of whose bytes the host may say which were written.
-    fn wake_told(&mut self, region: Region, written: Option<&[Written]>) -> Result<(), NotAwake>
+    /// Wakes the zone in a region of a guest, of whose bytes the host may say which were written.
+    fn wake_told(&mut self, mut region: Region, written: Option<&[Written]>) -> Result<(), NotAwake>
+        requires asleep { IsAsleep self.old }
+        requires whole { region.lent ≡ [] }
+        requires told { IfSome written (λ ranges. DifferIn self.old.zone (managed region.bytes) ranges.now) }
+        ensures awake { IfOk result (λ u. HasStructure self.old.zone (managed region.bytes) × IsTrue (all_lendable self.old (managed region.bytes)) × (self.new ≡ awake_in region self.old)) }
+        ensures asleep { IfErr result (λ no. SleepsOn no.why self.old (managed region.bytes) × (no.region ≡ region) × (self.new ≡ self.old)) }
+    {
+        let why = WhyAsleep::Damaged;
+        if region.len() != self.limit() {
+            return Err(NotAwake { region, why });
+        }
+        let fields = put_aside(&mut region);
+        match self.wake_managed(region, written) {
+            Ok(()) => {
+                self.guest = fields;
+                Ok(())
+            }
+            Err(NotAwake { mut region, why }) => {
+                fields.write_in(&mut region);
+                Err(NotAwake { region, why })
+            }
+        }
+    }
+
+    /// Wakes the zone in a region as the Memory Manager has it, of whose bytes the host may say which were written.
+    fn wake_managed(&mut self, region: Region, written: Option<&[Written]>) -> Result<(), NotAwake>
         requires asleep { IsAsleep self.old }
         requires whole { region.lent ≡ [] }
         requires told { IfSome written (λ ranges. DifferIn self.old.zone region.bytes ranges.now) }
-        ensures awake { IfOk result (λ u. HasStructure self.old.zone region.bytes × IsTrue (all_lendable self.old region.bytes) × (self.new ≡ awake_in region self.old)) }
+        ensures awake { IfOk result (λ u. HasStructure self.old.zone region.bytes × IsTrue (all_lendable self.old region.bytes) × (self.new ≡ awake_as region self.old)) }
         ensures asleep { IfErr result (λ no. SleepsOn no.why self.old region.bytes × (no.region ≡ region) × (self.new ≡ self.old)) }
     {
         let bytes = region.bytes(0, region.len());
@@ -125,8 +154,21 @@ impl Session {
 
     /// Puts the zone to sleep, which is awake in bytes of the host, and gives these back. What is lent comes back
     /// first, and waits to be lent again. Where these bytes stay as they are, the zone wakes in them as it was: nothing
-    /// refuses it, the same blocks are lent in the same order, and each has the bytes that C left in it.
+    /// refuses it, the same blocks are lent in the same order, and each has the bytes that C left in it. The guest's
+    /// fields are as the guest left them.
     pub fn sleep(&mut self) -> Result<Region, OsErr>
+        ensures given { IfOk result (λ region. IsGivenBack self.old region self.new) }
+        ensures whole { IfOk result (λ region. region.lent ≡ []) }
+        ensures refusal { result_err result ≡ sleep_refusal self.old }
+        ensures unchanged { OnErr result (self.new ≡ self.old) }
+    {
+        let mut region = self.sleep_managed()?;
+        self.guest.write_in(&mut region);
+        Ok(region)
+    }
+
+    /// Puts the zone to sleep, and gives the region back as the Memory Manager has it.
+    fn sleep_managed(&mut self) -> Result<Region, OsErr>
         ensures region { IfOk result (λ region. IsInRegion (all_back self.old) region) }
         ensures asleep { IfOk result (λ region. FallsAsleep self.old region self.new) }
         ensures again { IfOk result (λ region. WakesAsBefore self.old region self.new) }

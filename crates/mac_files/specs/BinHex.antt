@@ -1,5 +1,5 @@
 -- BinHex 4.0 (RFC 1741): which file a text stands for, and the first fault of a text that stands for none.
-use Rattle.std.specs.Prelude.{ℕ, ◌+◌, ◌-◌, ◌*◌, ◌/◌, ◌%◌, ◌==◌, nat_lt, nat_eq, Bool, true, not, ◌&&◌, ◌||◌, if◌then◌else◌, List, [], ◌∷◌, ◌++◌, length, map, take, drop, replicate, fold, position, slice_index, slice_range, codes, Option, None, Some, is_some, unwrap_or, Result, Ok, Err}
+use Rattle.std.specs.Prelude.{ℕ, ◌+◌, ◌-◌, ◌*◌, ◌/◌, ◌%◌, ◌==◌, nat_lt, nat_eq, ◌^◌, max, min, Bool, true, not, ◌&&◌, ◌||◌, if◌then◌else◌, List, [], ◌∷◌, ◌++◌, length, map, take, drop, replicate, fold, position, slice_index, slice_range, codes, Option, None, Some, is_some, unwrap_or, Result, Ok, Err}
 use Rattle.std.specs.List.{starts_with}
 use Rattle.std.specs.Fn.{iterate}
 use Rattle.std.specs.Int.Bits.{bit_xor}
@@ -12,7 +12,7 @@ use Rattle.mac_files.specs.declared.bin_hex.digits.Placed.{Placed}
 use Rattle.mac_files.specs.declared.bin_hex.fault.Section.{Section}
 use Rattle.mac_files.specs.declared.bin_hex.fault.Section.TheVariants.{Header, Data, Resource}
 use Rattle.mac_files.specs.declared.bin_hex.fault.BinHexFault.{BinHexFault}
-use Rattle.mac_files.specs.declared.bin_hex.fault.BinHexFault.TheVariants.{NoText, NotADigit, NotClosed, NothingToRepeat, NoCount, TooShort, WrongCrc}
+use Rattle.mac_files.specs.declared.bin_hex.fault.BinHexFault.TheVariants.{NoText, NotADigit, NotClosed, NothingToRepeat, NoCount, TooShort, TooLong, WrongCrc}
 
 -- Where the text begins.
 
@@ -208,11 +208,33 @@ abbrev pub file_unless : Option BinHexFault → List ℕ → Result File BinHexF
 file_unless None bytes = Ok (file_of bytes)
 file_unless (Some fault) bytes = Err fault
 
-abbrev pub file_from : Option ℕ → List ℕ → Result File BinHexFault
-file_from None text = Err NoText
-file_from (Some colon) text =
-    let reading = decoded_from (colon + 1) text in file_unless (first_fault reading) (values_of reading)
+-- the same, or that there are more values than the most that are read
+abbrev pub file_within : ℕ → Reading → Result File BinHexFault
+file_within most reading =
+    if nat_lt most (length reading.values) then Err (TooLong (length reading.values) most)
+    else file_unless (first_fault reading) (values_of reading)
+
+abbrev pub file_from : ℕ → Option ℕ → List ℕ → Result File BinHexFault
+file_from most None text = Err NoText
+file_from most (Some colon) text = file_within most (decoded_from (colon + 1) text)
+
+-- the file that a text stands for where that is at most so many bytes, or its first fault
+abbrev pub bin_hex_within : ℕ → List ℕ → Result File BinHexFault
+bin_hex_within most text = file_from most (colon_of text) text
+
+-- The most bytes that are read of a text of this length: 64 MiB, or three times as many as it has. A text without runs
+-- stands for fewer than it has. A number of the host has 64 bits.
+abbrev pub most_of : ℕ → ℕ
+most_of count = max 67108864 (min (2 ^ 64 - 1) (3 * count))
 
 -- the file that a text stands for, or its first fault
 abbrev pub bin_hex_of : List ℕ → Result File BinHexFault
-bin_hex_of text = file_from (colon_of text) text
+bin_hex_of text = bin_hex_within (most_of (length text)) text
+
+-- how many bytes a text stands for, as far as it is read
+abbrev pub length_from : Option ℕ → List ℕ → ℕ
+length_from None text = 0
+length_from (Some colon) text = length (decoded_from (colon + 1) text).values
+
+abbrev pub length_of : List ℕ → ℕ
+length_of text = length_from (colon_of text) text

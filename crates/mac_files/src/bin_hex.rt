@@ -11,4 +11,4 @@ mod read;
 mod runs;
 
 pub use find::is_bin_hex;
-pub use read::read_bin_hex;
+pub use read::{most_of, read_bin_hex, read_bin_hex_within};

@@ -1,18 +1,21 @@
 -- A BinHex text that is written is read as the file.
-use Rattle.std.proofs.Common.{◌≡◌, ℕ, zero, suc, ◌+◌, ◌-◌, ◌^◌, ◌<◌, true, false, List, [], ◌∷◌, ◌++◌, length, take, drop, Option, None, Some, Ok, refl, sym, ap, subst, ◌∙◌, append_assoc, arith}
+use Rattle.std.proofs.Common.{◌≡◌, ℕ, zero, suc, ◌+◌, ◌-◌, ◌^◌, ◌<◌, ◌≤◌, Bool, true, false, if◌then◌else◌, List, [], ◌∷◌, ◌++◌, length, take, drop, Option, None, Some, Ok, Err, refl, sym, ap, subst, ◌∙◌, append_assoc, arith}
 use Rattle.std.specs.Prelude.{◌==◌, nat_lt, slice_range}
 use Rattle.std.proofs.lemmas.Bool.{eq-eqb, le-ltb}
-use Rattle.std.proofs.lemmas.List.{append-nil, drop_at, length-append, take_all, take_at}
+use Rattle.std.proofs.lemmas.List.{append-nil, drop_at, length-append, length-map, take_all, take_at}
 use Rattle.byteorder.specs.Endian.{big_bytes, big_from}
 use Rattle.byteorder.specs.Numbers.{big_number-reads_back}
 use Rattle.mac_files.specs.Crc.{crc_of}
 use Rattle.mac_files.specs.declared.bin_hex.fault.Section.{Section}
 use Rattle.mac_files.specs.declared.bin_hex.fault.Section.TheVariants.{Header, Data, Resource}
+use Rattle.mac_files.specs.declared.bin_hex.digits.Placed.{Placed}
 use Rattle.mac_files.specs.declared.bin_hex.fault.BinHexFault.{BinHexFault}
-use Rattle.mac_files.specs.BinHex.{File, Reading, bin_hex_crc, bin_hex_of, colon_of, data_end, data_length, decoded_from, digits_from, expanded, file_from, file_of, file_unless, first_fault, header_end, line_from, name_length, packed, resource_end, resource_length, section_fault, values_of}
+use Rattle.mac_files.specs.declared.bin_hex.fault.BinHexFault.TheVariants.{TooLong}
+use Rattle.mac_files.specs.BinHex.{File, Reading, bin_hex_crc, bin_hex_of, colon_of, data_end, data_length, decoded_from, digits_from, expanded, file_from, file_of, file_unless, first_fault, header_end, line_from, most_of, name_length, packed, resource_end, resource_length, section_fault, values_of}
 use Rattle.mac_files.proofs.BinHexCrc.{bin_hex_crc_is}
 use Rattle.mac_files.proofs.BinHexFaults.{HasLengths, no_fault}
-use Rattle.mac_write.specs.HexText.{digits, escaped, hex_bytes, hex_header, hex_text, in_lines, with_crc}
+use Rattle.mac_write.specs.HexText.{comment_line, digits, escaped, hex_bytes, hex_header, hex_text, in_lines, with_crc}
+use Rattle.mac_write.proofs.HexLengths.{text_longer}
 use Rattle.mac_write.proofs.HexDigits.{Reads, text_read}
 use Rattle.mac_write.specs.Bytes.{AreBytes}
 use Rattle.mac_write.proofs.Refused.{append_lt, cons_lt, crc_lt, number_lt}
@@ -234,10 +237,38 @@ rest_is : (file : File) → drop 48 (hex_text file) ≡ in_lines 63 (digits (esc
 unfolding in_lines
 rest_is file = refl
 
+-- it stands for no more bytes than are read of it
+within : (file : File) → IsHexFile file → length (hex_bytes file) ≤ most_of (length (hex_text file))
+within file is =
+    let H = hex_header file in
+    let long = length-header file is in
+    let forks = with_crc file.data_fork ++ with_crc file.resource_fork in
+    let a = length-append (with_crc H) forks in
+    let b = length-append (with_crc file.data_fork) (with_crc file.resource_fork) in
+    let d = length-append H (big_bytes 2 (bin_hex_crc H)) in
+    let e = length-append file.data_fork (big_bytes 2 (bin_hex_crc file.data_fork)) in
+    let f = length-append file.resource_fork (big_bytes 2 (bin_hex_crc file.resource_fork)) in
+    let two : (x : ℕ) → length (big_bytes 2 x) ≡ 2 = λ x. refl in
+    let g = two (bin_hex_crc H) in
+    let h = two (bin_hex_crc file.data_fork) in
+    let i = two (bin_hex_crc file.resource_fork) in
+    let lines = text_longer (hex_bytes file) in
+    let whole = length-append comment_line (in_lines 64 (58 ∷ digits (escaped (hex_bytes file)) ++ 58 ∷ [])) in
+    let name = is.name_fits in
+    let first = is.data_fits in
+    let second = is.resource_fits in
+    omega arith
+
 pub text_is : (file : File) → IsHexFile file → bin_hex_of (hex_text file) ≡ Ok file
 text_is file is =
     let text = hex_text file in
+    let most = most_of (length text) in
     let read = text_read (hex_bytes file) 63 48 (bytes_lt file is) in
     let same : Reads (decoded_from 48 text) (hex_bytes file) =
     subst (λ (cs : List ℕ). let placed = digits_from 48 cs in Reads (expanded None (packed placed.values) placed.ending) (hex_bytes file)) (sym (rest_is file)) read in
-    ap (λ (colon : Option ℕ). file_from colon text) (colon_is file) ∙ file_read file (decoded_from 48 text) is same
+    let r = decoded_from 48 text in
+    let count : length r.values ≡ length (hex_bytes file) = sym (length-map r.values (λ (p : Placed). p.value)) ∙ ap length same.values_are in
+    let few : nat_lt most (length r.values) ≡ false = le-ltb most (length r.values) (rw count (within file is)) in
+    ap (λ (colon : Option ℕ). file_from most colon text) (colon_is file)
+    ∙ ap (λ (b : Bool). if b then Err (TooLong (length r.values) most) else file_unless (first_fault r) (values_of r)) few
+    ∙ file_read file r is same

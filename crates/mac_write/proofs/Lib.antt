@@ -13,6 +13,7 @@ pub mod AppleRead
 pub mod AppleTold
 pub mod AppleChanged
 pub mod HexDigits
+pub mod HexLengths
 pub mod HexLines
 pub mod HexRead
 pub mod Places

@@ -1,7 +1,7 @@
 -- How what was asked for makes the program's end.
 use Rattle.std.proofs.Common.{◌≡◌, ◌≢◌, ◌⊎◌, ℕ, Bool, true, false, List, [], ◌∷◌, ◌++◌, length, arith, Result, Ok, Err, Vec, Global, map, refl, sym, ap, subst, ◌∙◌, inl, inr, append_assoc}
 use Rattle.std.proofs.lemmas.List.{length-map}
-use Rattle.std.specs.Prelude.{MatchBool}
+use Rattle.std.specs.Prelude.{MatchBool, ⊤}
 use Rattle.clap.specs.Words.{Text, kind_of}
 use Rattle.fork_disk.specs.declared.store.ForkStore.{Ghosts}
 use Rattle.mac_base.specs.ZoneSizes.{ZoneSizes}
@@ -15,10 +15,13 @@ use Rattle.macheap.specs.declared.asked.Asked.{Asked}
 use Rattle.macheap.specs.declared.asked.Asked.TheVariants.{Run, Help}
 use Rattle.macheap.specs.declared.asked.NotAsked.{NotAsked}
 use Rattle.macheap.specs.declared.asked.NotAsked.TheVariants.{Words, TooManyForks, OtherJournals, NoNumber, Mode, Spec, HostFull}
+use Rattle.macheap.specs.declared.stores.AnyStore.{AnyStore}
+use Rattle.macheap.specs.declared.stores.AnyStore.TheVariants.{Alone, Journalled}
 use Rattle.macheap.specs.declared.stores.NoStores.{NoStores}
 use Rattle.macheap.specs.declared.stores.NoStores.TheVariants as why
 use Rattle.macheap.specs.Asking.{Asks}
-use Rattle.macheap.specs.Program.{Parts, Done, Told, Answers, AsksForNothing, NoStoresEnd, Refuses, ProgramEnds, Because, RunEnds, RunsOn, RunsOver, SaysWhy, TellsBadWords, TellsNoMemory, Wrote, lacks_memory, over_plain, over_journalled, unopened, no_stores, ran, helped, refused, full_words}
+use Rattle.macheap.specs.declared.claimed.Naming.TheVariants.{Once, Repeated}
+use Rattle.macheap.specs.Program.{Parts, Done, Told, Answers, AsksForNothing, NoStoresEnd, Refuses, ProgramEnds, Because, RunEnds, RunsOver, SaysWhy, TellsBadWords, TellsNoMemory, Wrote, lacks_memory, over_plain, over_journalled, unopened, no_stores, ran, helped, refused, full_words}
 use Rattle.macheap.specs.Stores.{ArePlain, AreJournalled, IsOpened, Opening}
 use Rattle.macheap.proofs.Opening.{cant_widen, some_widen}
 
@@ -81,14 +84,14 @@ full_told (NoNumber option) told is tells = cc
 full_told (Mode mode) told is tells = cc
 full_told (Spec fault) told is tells = cc
 
-module _ {F S J : Type 0} (parts : Parts F S J) (words : List Text) (openings : List (Opening F)) (done : Done) where
+module _ {F S J : Type 0} (parts : Parts F S J) (words : List Text) (openings : List (Opening F)) (closed : List (AnyStore S J)) (done : Done) where
   -- what was asked for was done
-  pub answered : (asked : Asked) → Asks words (Ok asked) → Answers parts asked openings done → ProgramEnds parts words openings done
+  pub answered : (asked : Asked) → Asks words (Ok asked) → Answers parts asked openings closed done → ProgramEnds parts words openings closed done
   answered (Run sizes files) asks answers = ran sizes (map (λ name. name.now) files.forks.items) (map (λ name. name.now) files.journals.items) asks answers
   answered (Help text) asks answers = helped asks.0 answers.0 answers.1
 
   -- it was reported why nothing was asked for
-  pub was_refused : (error : NotAsked) → Asks words (Err error) → AsksForNothing openings done → Refuses error done.told → ProgramEnds parts words openings done
+  pub was_refused : (error : NotAsked) → Asks words (Err error) → AsksForNothing openings closed done → Refuses error done.told → ProgramEnds parts words openings closed done
   was_refused (Words fault) asks nothing refuses = refused (inl (kind_of fault, asks.0, asks.1)) nothing refuses
   was_refused TooManyForks asks nothing refuses = refused (inr (inl asks)) nothing refuses
   was_refused OtherJournals asks nothing refuses = refused (inr (inr (inl asks))) nothing refuses
@@ -107,15 +110,8 @@ because (ScriptFault line wrong) read_failed write_failed read write = tt
 module _ {S : Type 0} (store : Ghosts S) (sizes : ZoneSizes) (done : Done) where
   -- a run over the stores that were opened
   pub ran_over : (stores left : List S) (end : RunEnd) → (end ≡ ReadFault → done.read_failed) → (end ≡ WriteFault → done.told.write_failed) → Ends store (start_of sizes stores) done.input end done.told.written left
-      → done.told.status ≡ status_of end → SaysWhy end done.told.silent done.told.tell_failed done.told.said → RunsOver store sizes stores done
-  ran_over stores left end read write ends status says = record { left = left; end = end; ends = ends; because = because end done.read_failed done.told.write_failed read write; status = status; says = says }
-
-  pub ran_on : (stores : Result (Vec S Global) NoStores) (opened : Vec S Global) → stores ≡ Ok opened → RunsOver store sizes opened.items done → RunsOn store sizes stores done
-  ran_on stores opened is runs = subst (λ (s : Result (Vec S Global) NoStores). RunsOn store sizes s done) (sym is) runs
-
-  -- it was reported why there are no stores
-  pub none_opened : (stores : Result (Vec S Global) NoStores) (fault : NoStores) → stores ≡ Err fault → NoStoresEnd fault done.told → RunsOn store sizes stores done
-  none_opened stores fault is ends = subst (λ (s : Result (Vec S Global) NoStores). RunsOn store sizes s done) (sym is) ends
+      → done.told.status ≡ status_of end → SaysWhy end done.told.silent done.told.tell_failed done.told.said → RunsOver store sizes stores left done
+  ran_over stores left end read write ends status says = record { end = end; ends = ends; because = because end done.read_failed done.told.write_failed read write; status = status; says = says }
 
 pub no_names : {B : Type 0} (now : B → Text) (names : List B) → length names ≡ 0 → map now names ≡ []
 no_names now [] none = refl
@@ -125,27 +121,38 @@ pub some_names : {B : Type 0} (now : B → Text) (names : List B) → length nam
 some_names now names some none = some (sym (length-map names now) ∙ ap length none)
 
 module _ {F S J B : Type 0} (parts : Parts F S J) (sizes : ZoneSizes) (now : B → Text) (forks journals : List B) (openings : List (Opening F)) (done : Done) where
-  abbrev Ran : Type 0
-  Ran = RunEnds parts sizes (map now forks) (map now journals) openings done
-
-  over_forks : (stores : Result (Vec S Global) NoStores) → map now journals ≡ [] → IsOpened (map now forks) openings (ArePlain parts.store parts.plain (map now forks) openings) stores → RunsOn parts.store sizes stores done → Ran
-  over_forks (Ok stores) none are runs = over_plain stores.items none are runs
-  over_forks (Err (why.CannotOpen path reason)) none cant runs = unopened path.now reason (cant_widen (map now forks) (map now journals) openings path.now reason cant) runs
-  over_forks (Err why.HostFull) none some runs = no_stores (some_widen (map now forks) (map now journals) openings some) runs
-
-  over_pairs : (stores : Result (Vec J Global) NoStores) → map now journals ≢ [] → IsOpened (map now forks ++ map now journals) openings (AreJournalled parts.pairs (map now forks ++ map now journals) openings) stores → RunsOn parts.with_journal sizes stores done → Ran
-  over_pairs (Ok stores) some are runs = over_journalled stores.items some are runs
-  over_pairs (Err (why.CannotOpen path reason)) some cant runs = unopened path.now reason cant runs
-  over_pairs (Err why.HostFull) some few runs = no_stores few runs
+  abbrev Ran : List (AnyStore S J) → Type 0
+  Ran closed = RunEnds parts sizes (map now forks) (map now journals) openings closed done
 
   -- a run over forks alone
-  pub plain_ran : (names : List B) (stores : Result (Vec S Global) NoStores) → names ≡ forks → length journals ≡ 0 → IsOpened (map now names) openings (ArePlain parts.store parts.plain (map now names) openings) stores
-      → RunsOn parts.store sizes stores done → Ran
-  plain_ran names stores same none opened = over_forks stores (no_names now journals none) (subst (λ (fs : List B). IsOpened (map now fs) openings (ArePlain parts.store parts.plain (map now fs) openings) stores) same opened)
+  pub plain_ran : (names : List B) (stores left : List S) → names ≡ forks → length journals ≡ 0 → ArePlain parts.files parts.store parts.plain (map now names) openings stores → RunsOver parts.store sizes stores left done → Ran (map Alone left)
+  plain_ran names stores left same none are runs =
+      over_plain stores left (no_names now journals none) (subst (λ (fs : List B). ArePlain parts.files parts.store parts.plain (map now fs) openings stores) same are) runs refl
+
+  forks_unopened : (fault : NoStores) → length journals ≡ 0 → IsOpened {T = ℕ} Repeated (map now forks) openings (λ made. ⊤) (Err fault) → NoStoresEnd fault done.told → Ran []
+  forks_unopened (why.CannotOpen path reason) none cant ends =
+      unopened path.now reason (cant_widen (map now forks) (map now journals) openings path.now reason cant.0) (λ twice. let never : Repeated ≡ Once = cant.1 twice in cc) refl ends
+  forks_unopened why.HostFull none some ends = no_stores (some_widen (map now forks) (map now journals) openings some) refl ends
+
+  -- or without them
+  pub plain_unopened : (names : List B) (fault : NoStores) → names ≡ forks → length journals ≡ 0 → IsOpened {T = ℕ} Repeated (map now names) openings (λ made. ⊤) (Err fault) → NoStoresEnd fault done.told → Ran []
+  plain_unopened names fault same none opened = forks_unopened fault none (subst (λ (fs : List B). IsOpened {T = ℕ} Repeated (map now fs) openings (λ made. ⊤) (Err fault)) same opened)
 
   -- a run over forks with journals
-  pub journalled_ran : (names journal_names : List B) (stores : Result (Vec J Global) NoStores) → names ≡ forks → journal_names ≡ journals → length journals ≢ 0
-      → IsOpened (map now names ++ map now journal_names) openings (AreJournalled parts.pairs (map now names ++ map now journal_names) openings) stores → RunsOn parts.with_journal sizes stores done → Ran
-  journalled_ran names journal_names stores same theirs some opened = over_pairs stores (some_names now journals some)
-      (subst (λ (js : List B). IsOpened (map now forks ++ map now js) openings (AreJournalled parts.pairs (map now forks ++ map now js) openings) stores) theirs
-      (subst (λ (fs : List B). IsOpened (map now fs ++ map now journal_names) openings (AreJournalled parts.pairs (map now fs ++ map now journal_names) openings) stores) same opened))
+  pub journalled_ran : (names journal_names : List B) (stores left : List J) → names ≡ forks → journal_names ≡ journals → length journals ≢ 0
+      → AreJournalled parts.files parts.pairs (map now names ++ map now journal_names) openings stores → RunsOver parts.with_journal sizes stores left done → Ran (map Journalled left)
+  journalled_ran names journal_names stores left same theirs some are runs =
+      over_journalled stores left (some_names now journals some)
+      (subst (λ (js : List B). AreJournalled parts.files parts.pairs (map now forks ++ map now js) openings stores) theirs
+      (subst (λ (fs : List B). AreJournalled parts.files parts.pairs (map now fs ++ map now journal_names) openings stores) same are)) runs refl
+
+  pairs_unopened : (fault : NoStores) → length journals ≢ 0 → IsOpened {T = ℕ} Once (map now forks ++ map now journals) openings (λ made. ⊤) (Err fault) → NoStoresEnd fault done.told → Ran []
+  pairs_unopened (why.CannotOpen path reason) some cant ends = unopened path.now reason cant.0 (λ twice. some_names now journals some) refl ends
+  pairs_unopened why.HostFull some few ends = no_stores few refl ends
+
+  -- or without them
+  pub journalled_unopened : (names journal_names : List B) (fault : NoStores) → names ≡ forks → journal_names ≡ journals → length journals ≢ 0
+      → IsOpened {T = ℕ} Once (map now names ++ map now journal_names) openings (λ made. ⊤) (Err fault) → NoStoresEnd fault done.told → Ran []
+  journalled_unopened names journal_names fault same theirs some opened = pairs_unopened fault some
+      (subst (λ (js : List B). IsOpened {T = ℕ} Once (map now forks ++ map now js) openings (λ made. ⊤) (Err fault)) theirs
+      (subst (λ (fs : List B). IsOpened {T = ℕ} Once (map now fs ++ map now journal_names) openings (λ made. ⊤) (Err fault)) same opened))

@@ -3,11 +3,15 @@ use Rattle.std.proofs.Common.{◌≡◌, ◌≢◌, Result, Ok, Err, Vec, Global
 use Rattle.std.proofs.lemmas.List.{append-nil, length-map, take_all, take_more, map-append, take-append-drop}
 use Rattle.std.specs.Prelude.{IfOk, IfErr, ⊤}
 use Rattle.clap.specs.Words.{Text}
+use Rattle.macheap.specs.Claiming.{AreNamed, Asking, IsNamed}
+use Rattle.macheap.specs.declared.claimed.FileId.{FileId}
+use Rattle.macheap.specs.declared.claimed.Naming.{Naming}
+use Rattle.macheap.specs.declared.claimed.Naming.TheVariants.{Once, Repeated}
 use Rattle.fork_disk.specs.declared.store.ForkStore.{Ghosts}
 use Rattle.macheap.specs.declared.opened.NotOpened.{NotOpened}
 use Rattle.macheap.specs.declared.stores.NoStores.{NoStores}
 use Rattle.macheap.specs.declared.stores.NoStores.TheVariants.{CannotOpen, HostFull}
-use Rattle.macheap.specs.Stores.{AreOn, ArePaired, ArePlain, Asked, IsOpened, OneCantBeOpened, Opening, SomeOpened}
+use Rattle.macheap.specs.Stores.{AreJournalled, AreOn, ArePaired, ArePairs, ArePlain, Asked, IsOpened, OneCantBeOpened, Opening, SomeOpened}
 
 -- one more file is asked for
 pub asked_next : {F : Type 0} (paths : List Text) (files : List (Result F NotOpened)) (openings : List (Opening F)) (path : Text) (file : Result F NotOpened) → Asked paths files openings → Asked (paths ++ path ∷ []) (files ++ file ∷ []) (openings ++ (path, file) ∷ [])
@@ -69,6 +73,11 @@ module _ {F B : Type 0} (before : List Text) (names : List B) (now : B → Text)
   pub asked_none : (files : List F) (openings : List (Opening F)) → Asked before (map Ok files) openings → Asked (before ++ map now (take 0 names)) (map Ok (files ++ [])) openings
   asked_none files openings asked = subst (λ (ps : List Text). Asked ps (map Ok (files ++ [])) openings) (sym (append-nil before)) (subst (λ (fs : List F). Asked before (map Ok fs) openings) (sym (append-nil files)) asked)
 
+-- none of these yet
+pub named_none : {F B : Type 0} (asking : Asking F) (naming : Naming) (before : List Text) (names : List B) (now : B → Text) (files : List F) → AreNamed asking naming [] before files → AreNamed asking naming [] (before ++ map now (take 0 names)) (files ++ [])
+named_none asking naming before names now files are =
+    subst (λ (ps : List Text). AreNamed asking naming [] ps (files ++ [])) (sym (append-nil before)) (subst (AreNamed asking naming [] before) (sym (append-nil files)) are)
+
 -- as many files as paths
 pub asked_length : {F B : Type 0} (names : List B) (now : B → Text) (files : List F) (openings : List (Opening F)) → Asked (map now names) (map Ok files) openings → length files ≡ length names
 asked_length names now files openings asked =
@@ -106,24 +115,49 @@ ArePaired-push pairs from number (f ∷ forks) [] stores fork journal store are 
 ArePaired-push pairs from number (f ∷ forks) (j ∷ journals) [] fork journal store are is one = absurd are
 
 -- why files weren't opened is why more of them weren't
-pub fault_widen : {F : Type 0} (paths more : List Text) (openings : List (Opening F)) (fault : NoStores) → IsOpened {T = ℕ} paths openings (λ made. ⊤) (Err fault) → IsOpened {T = ℕ} (paths ++ more) openings (λ made. ⊤) (Err fault)
-fault_widen paths more openings (CannotOpen path why) cant = cant_widen paths more openings path.now why cant
-fault_widen paths more openings HostFull some = some_widen paths more openings some
+pub fault_widen : {F : Type 0} (naming : Naming) (paths more : List Text) (openings : List (Opening F)) (fault : NoStores) → IsOpened {T = ℕ} naming paths openings (λ made. ⊤) (Err fault) → IsOpened {T = ℕ} naming (paths ++ more) openings (λ made. ⊤) (Err fault)
+fault_widen naming paths more openings (CannotOpen path why) cant = (cant_widen paths more openings path.now why cant.0, cant.1)
+fault_widen naming paths more openings HostFull some = some_widen paths more openings some
 
-module _ {F S : Type 0} (store : Ghosts S) (plain : ℕ → F → S → Type 0) where
-  one_opened : (result : Result (Vec S Global) NoStores) → IfOk result (λ stores. ArePlain store plain [] [] stores.items) → IfErr result (λ fault. fault ≡ HostFull) → IsOpened {F = F} [] [] (ArePlain store plain [] []) result
+-- one more file is opened by its path
+pub AreNamed-push : {F : Type 0} (asking : Asking F) (naming : Naming) (known : List FileId) (paths : List Text) (files : List F) (path : Text) (file : F) → AreNamed asking naming known paths files → IsNamed asking naming (known ++ map asking.id files) path file
+    → AreNamed asking naming known (paths ++ path ∷ []) (files ++ file ∷ [])
+AreNamed-push asking naming known [] [] path file are one = (subst (λ (ids : List FileId). IsNamed asking naming ids path file) (append-nil known) one, tt)
+AreNamed-push asking naming known (p ∷ paths) (f ∷ files) path file are one = (
+  are.0,
+  AreNamed-push asking naming (known ++ asking.id f ∷ []) paths files path file are.1 (subst (λ (ids : List FileId). IsNamed asking naming ids path file) (sym (append_assoc known (asking.id f ∷ []) (map asking.id files))) one),
+)
+AreNamed-push asking naming known [] (f ∷ files) path file are one = absurd are
+AreNamed-push asking naming known (p ∷ paths) [] path file are one = absurd are
+
+-- and by the next of these paths
+pub named_more : {F B : Type 0} (asking : Asking F) (naming : Naming) (known : List FileId) (before : List Text) (names : List B) (now : B → Text) (at : ℕ) (name : B) (files : List F) (file : F) → at < length names → name ≡ get_or names at name
+    → AreNamed asking naming known (before ++ map now (take at names)) files → IsNamed asking naming (known ++ map asking.id files) (now name) file → AreNamed asking naming known (before ++ map now (take (at + 1) names)) (files ++ file ∷ [])
+named_more asking naming known before names now at name files file lt is are one =
+    subst (λ (ps : List Text). AreNamed asking naming known ps (files ++ file ∷ [])) (sym (next_paths before names now at name lt is))
+    (AreNamed-push asking naming known (before ++ map now (take at names)) files (now name) file are one)
+
+module _ {F S : Type 0} (asking : Asking F) (store : Ghosts S) (plain : ℕ → F → S → Type 0) where
+  one_opened : (result : Result (Vec S Global) NoStores) → IfOk result (λ stores. ArePlain asking store plain [] [] stores.items) → IfErr result (λ fault. fault ≡ HostFull) → IsOpened {F = F} Repeated [] [] (ArePlain asking store plain [] []) result
   one_opened (Ok stores) are full = are
   one_opened (Err (CannotOpen path why)) are full = cc
   one_opened (Err HostFull) are full = ([], [], [], refl, record { paths_are = refl; files_are = refl })
 
   -- no path, and so a store in memory
-  pub none_given : (paths : List Text) → paths ≡ [] → (result : Result (Vec S Global) NoStores) → IfOk result (λ stores. ArePlain store plain [] [] stores.items) → IfErr result (λ fault. fault ≡ HostFull) → IsOpened {F = F} paths [] (ArePlain store plain paths []) result
-  none_given paths none result are full = subst (λ (ps : List Text). IsOpened {F = F} ps [] (ArePlain store plain ps []) result) (sym none) (one_opened result are full)
+  pub none_given : (paths : List Text) → paths ≡ [] → (result : Result (Vec S Global) NoStores) → IfOk result (λ stores. ArePlain asking store plain [] [] stores.items) → IfErr result (λ fault. fault ≡ HostFull) → IsOpened {F = F} Repeated paths [] (ArePlain asking store plain paths []) result
+  none_given paths none result are full = subst (λ (ps : List Text). IsOpened {F = F} Repeated ps [] (ArePlain asking store plain ps []) result) (sym none) (one_opened result are full)
 
   -- the stores of the files that were opened
   pub plain_opened : (paths : List Text) (files : List F) (openings : List (Opening F)) → paths ≢ [] → Asked paths (map Ok files) openings → (result : Result (Vec S Global) NoStores) → IfOk result (λ stores. AreOn plain 0 files stores.items) → IfErr result (λ fault. fault ≡ HostFull)
-      → IsOpened paths openings (ArePlain store plain paths openings) result
-  plain_opened [] files openings some asked result are full = absurd (some refl)
-  plain_opened (path ∷ paths) files openings some asked (Ok stores) are full = (files, asked, are)
-  plain_opened (path ∷ paths) files openings some asked (Err (CannotOpen that why)) are full = cc
-  plain_opened (path ∷ paths) files openings some asked (Err HostFull) are full = (path ∷ paths, [], files, sym (append-nil (path ∷ paths)), asked)
+      → AreNamed asking Repeated [] paths files → IsOpened Repeated paths openings (ArePlain asking store plain paths openings) result
+  plain_opened [] files openings some asked result are full named = absurd (some refl)
+  plain_opened (path ∷ paths) files openings some asked (Ok stores) are full named = (files, asked, are, named)
+  plain_opened (path ∷ paths) files openings some asked (Err (CannotOpen that why)) are full named = cc
+  plain_opened (path ∷ paths) files openings some asked (Err HostFull) are full named = (path ∷ paths, [], files, sym (append-nil (path ∷ paths)), asked)
+
+-- the stores of the files that were opened, with journals
+pub journalled_opened : {F J : Type 0} (asking : Asking F) (pairs : ℕ → F → F → J → Type 0) (paths : List Text) (openings : List (Opening F)) (files : List (F × F)) → ArePairs asking paths openings files → (result : Result (Vec J Global) NoStores)
+    → IfOk result (λ stores. ArePaired pairs 0 (map (λ pair. pair.0) files) (map (λ pair. pair.1) files) stores.items) → IfErr result (λ fault. fault ≡ HostFull) → IsOpened Once paths openings (AreJournalled asking pairs paths openings) result
+journalled_opened asking pairs paths openings files opened (Ok stores) are full = (map (λ pair. pair.0) files, map (λ pair. pair.1) files, opened.0, are, opened.1)
+journalled_opened asking pairs paths openings files opened (Err (CannotOpen path why)) are full = cc
+journalled_opened asking pairs paths openings files opened (Err HostFull) are full = (paths, [], map (λ pair. pair.0) files ++ map (λ pair. pair.1) files, sym (append-nil paths), opened.0)

@@ -18,6 +18,10 @@ use Rattle.macheap.specs.declared.asked.NotAsked.TheVariants.{HostFull}
 use Rattle.macheap.specs.Asking.{AsksForRun, AsksForHelp, DontMatch, NamesTooMany, JournalsDontFit, GivesNoNumber, GivesNoMode, GivesNoZone}
 use Rattle.macheap.specs.declared.opened.NotOpened.{NotOpened}
 use Rattle.macheap.specs.Opening.{reason}
+use Rattle.macheap.specs.Claiming.{Asking}
+use Rattle.macheap.specs.declared.opened.NotOpened.TheVariants.{Twice}
+use Rattle.macheap.specs.declared.stores.AnyStore.{AnyStore}
+use Rattle.macheap.specs.declared.stores.AnyStore.TheVariants.{Alone, Journalled}
 use Rattle.macheap.specs.declared.stores.NoStores.{NoStores}
 use Rattle.macheap.specs.declared.stores.NoStores.TheVariants as why
 use Rattle.macheap.specs.Stores.{Opening, ArePlain, AreJournalled, OneCantBeOpened, SomeOpened}
@@ -134,56 +138,55 @@ SaysWhy NoMemory silent failed said = silent
 SaysWhy ReadFault silent failed said = silent
 SaysWhy WriteFault silent failed said = silent
 
--- A run on a zone of these sizes and these stores ended so.
-pub record RunsOver {S : Type 0} (store : Ghosts S) (sizes : ZoneSizes) (stores : List S) (done : Done) : Type 0 where
-  pub left : List S
+-- A run on a zone of these sizes and these stores ended so, and left them so.
+pub record RunsOver {S : Type 0} (store : Ghosts S) (sizes : ZoneSizes) (stores left : List S) (done : Done) : Type 0 where
   pub end : RunEnd
   pub ends : Ends store (start_of sizes stores) done.input end done.told.written left
   pub because : Because end done.read_failed done.told.write_failed
   pub status : done.told.status ≡ status_of end
   pub says : SaysWhy end done.told.silent done.told.tell_failed done.told.said
 
--- A run on a zone of these sizes and the stores that opening them gave, if any.
-abbrev pub RunsOn : {S : Type 0} → Ghosts S → ZoneSizes → Result (Vec S Global) NoStores → Done → Type 0
-RunsOn store sizes (Ok stores) done = RunsOver store sizes stores.items done
-RunsOn store sizes (Err fault) done = NoStoresEnd fault done.told
-
--- What a run is made of: what its stores do, alone and with a journal, and which stores are made of files.
+-- What a run is made of: what is asked of its files, what its stores do, alone and with a journal, and which stores are
+-- made of files.
 pub record Parts (F S J : Type 0) : Type 1 where
+  pub files : Asking F
   pub store : Ghosts S
   pub with_journal : Ghosts J
   pub plain : ℕ → F → S → Type 0
   pub pairs : ℕ → F → F → J → Type 0
 
 -- A run on a zone of these sizes over the files of these names, of which these were asked for, ended so: each fork
--- alone, or each with its journal. Or one of the files can't be opened, or the host has no memory for the stores.
-pub data RunEnds {F S J : Type 0} (parts : Parts F S J) (sizes : ZoneSizes) (forks journals : List Text) (openings : List (Opening F)) (done : Done) : Type 0 where
-  over_plain : (stores : List S) → journals ≡ [] → ArePlain parts.store parts.plain forks openings stores → RunsOver parts.store sizes stores done → RunEnds parts sizes forks journals openings done
-  over_journalled : (stores : List J) → journals ≢ [] → AreJournalled parts.pairs (forks ++ journals) openings stores → RunsOver parts.with_journal sizes stores done → RunEnds parts sizes forks journals openings done
-  unopened : (path : Text) (reason_of : NotOpened) → OneCantBeOpened (forks ++ journals) openings path reason_of → TellsCannotOpen path reason_of done.told → RunEnds parts sizes forks journals openings done
-  no_stores : SomeOpened (forks ++ journals) openings → TellsNoMemory done.told → RunEnds parts sizes forks journals openings done
+-- alone, or each with its journal. The stores were closed as it left them. Or one of the files can't be opened, or the
+-- host has no memory for the stores: then there were none. A second name of a file is refused only where there are
+-- journals.
+pub data RunEnds {F S J : Type 0} (parts : Parts F S J) (sizes : ZoneSizes) (forks journals : List Text) (openings : List (Opening F)) (closed : List (AnyStore S J)) (done : Done) : Type 0 where
+  over_plain : (stores left : List S) → journals ≡ [] → ArePlain parts.files parts.store parts.plain forks openings stores → RunsOver parts.store sizes stores left done → closed ≡ map Alone left → RunEnds parts sizes forks journals openings closed done
+  over_journalled : (stores left : List J) → journals ≢ [] → AreJournalled parts.files parts.pairs (forks ++ journals) openings stores → RunsOver parts.with_journal sizes stores left done → closed ≡ map Journalled left → RunEnds parts sizes forks journals openings closed done
+  unopened : (path : Text) (reason_of : NotOpened) → OneCantBeOpened (forks ++ journals) openings path reason_of → (reason_of ≡ Twice → journals ≢ []) → closed ≡ [] → TellsCannotOpen path reason_of done.told → RunEnds parts sizes forks journals openings closed done
+  no_stores : SomeOpened (forks ++ journals) openings → closed ≡ [] → TellsNoMemory done.told → RunEnds parts sizes forks journals openings closed done
 
--- no file was asked for, and nothing was read
-abbrev pub AsksForNothing : {F : Type 0} → List (Opening F) → Done → Type 0
-AsksForNothing openings done = (openings ≡ []) × (done.given ≡ [])
+-- no file was asked for, no store was closed, and nothing was read
+abbrev pub AsksForNothing : {F T : Type 0} → List (Opening F) → List T → Done → Type 0
+AsksForNothing openings closed done = (openings ≡ []) × (closed ≡ []) × (done.given ≡ [])
 
 -- What was asked for was done: a run on a zone, or a help text, for which nothing is read.
-abbrev pub Answers : {F S J : Type 0} → Parts F S J → Asked → List (Opening F) → Done → Type 0
-Answers parts (Run sizes files) openings done = RunEnds parts sizes (map (λ name. name.now) files.forks.items) (map (λ name. name.now) files.journals.items) openings done
-Answers parts (Help text) openings done = AsksForNothing openings done × ShowsHelp done.told
+abbrev pub Answers : {F S J : Type 0} → Parts F S J → Asked → List (Opening F) → List (AnyStore S J) → Done → Type 0
+Answers parts (Run sizes files) openings closed done = RunEnds parts sizes (map (λ name. name.now) files.forks.items) (map (λ name. name.now) files.journals.items) openings closed done
+Answers parts (Help text) openings closed done = AsksForNothing openings closed done × ShowsHelp done.told
 
 -- the words are bad, name too many files, or journals that don't fit them, or give numbers of which there is no mode or
 -- no zone
 abbrev pub AreBad : List Text → Type 0
 AreBad words = DontMatch words ⊎ (NamesTooMany words ⊎ (JournalsDontFit words ⊎ (((option : Text) × GivesNoNumber words option) ⊎ (((mode : ℕ) × GivesNoMode words mode) ⊎ ((fault : BadSpec) × GivesNoZone words fault)))))
 
--- With these words the program may ask for these files and do so, where a run is made of these parts.
-pub data ProgramEnds {F S J : Type 0} (parts : Parts F S J) (words : List Text) (openings : List (Opening F)) (done : Done) : Type 0 where
+-- With these words the program may ask for these files, close these stores and do so, where a run is made of these
+-- parts.
+pub data ProgramEnds {F S J : Type 0} (parts : Parts F S J) (words : List Text) (openings : List (Opening F)) (closed : List (AnyStore S J)) (done : Done) : Type 0 where
   -- a run on the zone that the words give, over the files that they name
-  ran : (sizes : ZoneSizes) (forks journals : List Text) → AsksForRun words sizes forks journals → RunEnds parts sizes forks journals openings done → ProgramEnds parts words openings done
+  ran : (sizes : ZoneSizes) (forks journals : List Text) → AsksForRun words sizes forks journals → RunEnds parts sizes forks journals openings closed done → ProgramEnds parts words openings closed done
   -- a help text, or as much of it as the output took
-  helped : AsksForHelp words → AsksForNothing openings done → ShowsHelp done.told → ProgramEnds parts words openings done
+  helped : AsksForHelp words → AsksForNothing openings closed done → ShowsHelp done.told → ProgramEnds parts words openings closed done
   -- a message, since the words are bad
-  refused : AreBad words → AsksForNothing openings done → TellsBadWords done.told → ProgramEnds parts words openings done
+  refused : AreBad words → AsksForNothing openings closed done → TellsBadWords done.told → ProgramEnds parts words openings closed done
   -- that the host has no memory for the words
-  full_words : AsksForNothing openings done → TellsNoMemory done.told → ProgramEnds parts words openings done
+  full_words : AsksForNothing openings closed done → TellsNoMemory done.told → ProgramEnds parts words openings closed done

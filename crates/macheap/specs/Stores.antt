@@ -3,7 +3,11 @@ use Rattle.std.specs.Prelude.{◌≡◌, ℕ, suc, ⊤, List, [], ◌∷◌, ◌
 use Rattle.std.specs.Global.{Global}
 use Rattle.clap.specs.Words.{Text}
 use Rattle.fork_disk.specs.declared.store.ForkStore.{Ghosts}
+use Rattle.macheap.specs.Claiming.{AreNamed, Asking}
+use Rattle.macheap.specs.declared.claimed.Naming.{Naming}
+use Rattle.macheap.specs.declared.claimed.Naming.TheVariants.{Once, Repeated}
 use Rattle.macheap.specs.declared.opened.NotOpened.{NotOpened}
+use Rattle.macheap.specs.declared.opened.NotOpened.TheVariants.{Twice}
 use Rattle.macheap.specs.declared.stores.NoStores.{NoStores}
 use Rattle.macheap.specs.declared.stores.NoStores.TheVariants.{CannotOpen, HostFull}
 
@@ -39,9 +43,10 @@ AreOn plain from [] (s ∷ stores) = ⊥
 AreOn plain from (file ∷ files) [] = ⊥
 
 -- the stores of a run over the forks in the files of these paths: where there are none, an empty one
-abbrev pub ArePlain : {F S : Type 0} → Ghosts S → (ℕ → F → S → Type 0) → List Text → List (Opening F) → List S → Type 0
-ArePlain {S = S} store plain [] openings stores = (s : S) × (stores ≡ s ∷ []) × IsEmpty store s × (openings ≡ [])
-ArePlain {F = F} store plain (path ∷ paths) openings stores = (files : List F) × Asked (path ∷ paths) (map Ok files) openings × AreOn plain 0 files stores
+abbrev pub ArePlain : {F S : Type 0} → Asking F → Ghosts S → (ℕ → F → S → Type 0) → List Text → List (Opening F) → List S → Type 0
+ArePlain {S = S} asking store plain [] openings stores = (s : S) × (stores ≡ s ∷ []) × IsEmpty store s × (openings ≡ [])
+ArePlain {F = F} asking store plain (path ∷ paths) openings stores = (files : List F) × Asked (path ∷ paths) (map Ok files) openings × AreOn plain 0 files stores
+    × AreNamed asking Repeated [] (path ∷ paths) files
 
 -- the stores of the forks in these files, each with a journal in one of those, numbered as above
 abbrev pub ArePaired : {F J : Type 0} → (ℕ → F → F → J → Type 0) → ℕ → List F → List F → List J → Type 0
@@ -49,12 +54,19 @@ ArePaired pairs from [] [] [] = ⊤
 ArePaired pairs from (fork ∷ forks) (journal ∷ journals) (s ∷ stores) = pairs from fork journal s × ArePaired pairs (suc from) forks journals stores
 ArePaired pairs from _ _ _ = ⊥
 
--- the stores of a run over the forks and the journals in the files of these paths: all forks are opened first
-abbrev pub AreJournalled : {F J : Type 0} → (ℕ → F → F → J → Type 0) → List Text → List (Opening F) → List J → Type 0
-AreJournalled {F = F} pairs paths openings stores = (forks : List F) × (journals : List F) × Asked paths (map Ok (forks ++ journals)) openings × ArePaired pairs 0 forks journals stores
+-- the files of the forks and the journals of these paths, a fork with its journal: all are different, and all forks are
+-- opened first
+abbrev pub ArePairs : {F : Type 0} → Asking F → List Text → List (Opening F) → List (F × F) → Type 0
+ArePairs {F = F} asking paths openings pairs = (let files = map (λ pair. pair.0) pairs ++ map (λ pair. pair.1) pairs in Asked paths (map Ok files) openings × AreNamed asking Once [] paths files)
+
+-- the stores of a run over the forks and the journals in the files of these paths, which are all different: all forks
+-- are opened first
+abbrev pub AreJournalled : {F J : Type 0} → Asking F → (ℕ → F → F → J → Type 0) → List Text → List (Opening F) → List J → Type 0
+AreJournalled {F = F} asking pairs paths openings stores = (forks : List F) × (journals : List F) × Asked paths (map Ok (forks ++ journals)) openings × ArePaired pairs 0 forks journals stores
+    × AreNamed asking Once [] paths (forks ++ journals)
 
 -- What is made of the files of these paths, or why it isn't: one of them can't be opened, or the host has no memory.
-abbrev pub IsOpened : {F T : Type 0} → List Text → List (Opening F) → (List T → Type 0) → Result (Vec T Global) NoStores → Type 0
-IsOpened paths openings AreMade (Ok made) = AreMade made.items
-IsOpened paths openings AreMade (Err (CannotOpen path why)) = OneCantBeOpened paths openings path.now why
-IsOpened paths openings AreMade (Err HostFull) = SomeOpened paths openings
+abbrev pub IsOpened : {F T : Type 0} → Naming → List Text → List (Opening F) → (List T → Type 0) → Result (Vec T Global) NoStores → Type 0
+IsOpened naming paths openings AreMade (Ok made) = AreMade made.items
+IsOpened naming paths openings AreMade (Err (CannotOpen path why)) = OneCantBeOpened paths openings path.now why × (why ≡ Twice → naming ≡ Once)
+IsOpened naming paths openings AreMade (Err HostFull) = SomeOpened paths openings

@@ -117,9 +117,9 @@ fn command<'a>(alloc: Global) -> Result<Command<'a>, AllocError>
     let mode_help =
         "The headers of its blocks: 24 for those of 8 bytes, 32 for those of 12 (default 24)";
     let fork_help =
-        "A file with a resource fork, made where it is missing; up to 8 times (default: none in a file)";
+        "A file with a resource fork, made where it is missing, and locked until the end; up to 8 times (default: none in a file)";
     let journal_help =
-        "A file for the journal of the k-th --fork, made where it is missing; as often as --fork, or not at all (default: none)";
+        "A file for the journal of the k-th --fork, made where it is missing, and overwritten whatever it was; as often as --fork, or not at all, and then no file twice (default: none)";
     let large_help =
         "Takes a zone of up to 1073741824 bytes, which with --mode 32 may end anywhere below 4294967296";
     Command::new(alloc, "macheap")

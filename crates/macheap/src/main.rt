@@ -3,14 +3,17 @@
 #![tactic(auto)]
 
 mod asked;
+mod claimed;
 mod disk;
 mod files;
 mod opened;
 mod program;
 mod stores;
 
+use disk::Disk;
+use fork_disk::store::PlainStore;
 use fork_disk::{Unknown, World};
-use fork_journal::{PairWorld, UnknownPair};
+use fork_journal::{FilePair, Journal, PairWorld, UnknownPair};
 use program::{BAD_WORDS, program};
 use script_run::{Counted, status, tell_no_memory};
 use std::io::ErrorKind;
@@ -36,7 +39,7 @@ fn run_on_host<W: World, V: PairWorld>(rt: &HostRuntime) -> ExitCode {
     let mut output = Counted::new(rt.stdout());
     let mut messages = Counted::new(rt.stderr());
     let words = words.as_slice();
-    let mut opener: HostDisks<'_, W, V> = HostDisks::new(rt);
+    let mut opener: HostDisks<'_, PlainStore<Disk<W>>, Journal<FilePair<V>>> = HostDisks::new(rt);
     ExitCode::from(program(
         alloc,
         words,

@@ -2,6 +2,7 @@
 
 ghost use Rattle.std.specs.Prelude.{◌≡◌, ◌++◌, ◌∷◌, [], false};
 
+use crate::claimed::{FileId, Lock};
 use fork_disk::{HostFile, Record};
 use std::collections::LinkedList;
 use std::io::ErrorKind;
@@ -10,6 +11,12 @@ use std::io::ErrorKind;
 #[derive(Drop)]
 pub struct NewFile {
     pub file: HostFile,
+    /// The path by which it was opened. Only clauses read it.
+    pub path: Record<u8>,
+    /// Which file it is.
+    pub id: FileId,
+    /// Its lock; none where the run has opened the same file before.
+    pub lock: Option<Lock>,
     ghost unfailed: { file.failures ≡ 0 },
     ghost unspent: { file.is_spent ≡ false },
 }
@@ -25,17 +32,22 @@ pub enum NotOpened {
     Denied,
     /// It is missing where nothing can be made.
     ReadOnly,
+    /// Another program has it open, and has locked it.
+    InUse,
+    /// A word before this one names the same file.
+    Twice,
     /// The host has another reason.
     Other,
 }
 
 impl NotOpened {
-    ghost use Rattle.std.specs.Prelude.{◌≡◌};
+    ghost use Rattle.std.specs.Prelude.{◌≡◌, ◌≢◌};
     ghost use Rattle.macheap.specs.Opening.{because, reason};
 
     /// What an error of this kind says.
     pub fn because(kind: ErrorKind) -> NotOpened
-        ensures { result ≡ because kind }
+        ensures kind { result ≡ because kind }
+        ensures first { result ≢ NotOpened.Twice }
     {
         match kind {
             ErrorKind::NotFound | ErrorKind::NotADirectory => NotOpened::NoFolder,
@@ -57,6 +69,9 @@ impl NotOpened {
                 b": permission denied; ask its owner for it, or name another file\n",
             NotOpened::ReadOnly =>
                 b": it is missing, and nothing can be made there; name another file\n",
+            NotOpened::InUse =>
+                b": another program is at work on it; wait for its end, or name another file\n",
+            NotOpened::Twice => b": a word before it names the same file; name another file\n",
             NotOpened::Other => b": the system refuses it; name another file\n",
         }
     }

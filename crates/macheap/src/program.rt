@@ -1,15 +1,18 @@
 //! What the program does with its words, its input and its output.
 
-ghost use Rattle.std.specs.Prelude.{◌≡◌, ◌≢◌, ◌≤◌, ◌++◌, [], ℕ, List, IfOk, length, map};
+ghost use Rattle.std.specs.Prelude.{◌≡◌, ◌≢◌, ◌≤◌, ◌++◌, [], ℕ, List, length, map};
 ghost use Rattle.macheap.specs.Files.{most_files};
 ghost use Rattle.script_run.specs.Counting.{RoseByOne, Took};
-ghost use Rattle.macheap.specs.Program.{Answers, Did, HelpEnds, NoStoresEnd, ProgramEnds, Refuses, RunEnds, RunsOn, SaysWhy, Tells, Wrote, cannot_open_text, lacks_memory};
+ghost use Rattle.macheap.specs.Program.{Answers, Did, HelpEnds, NoStoresEnd, ProgramEnds, Refuses, RunEnds, RunsOver, SaysWhy, Tells, Wrote, cannot_open_text, lacks_memory};
 ghost use Rattle.macheap.specs.Stores.{Opening};
+ghost use Rattle.macheap.specs.declared.stores.AnyStore.{AnyStore};
 
 use crate::asked::{Asked, NotAsked, asked_by};
 use crate::files::Files;
 use crate::opened::NotOpened;
-use crate::stores::{NoStores, Opens, journalled_stores, plain_stores};
+use crate::stores::{
+    NoStores, Opens, close_alone, close_journalled, journalled_stores, plain_stores,
+};
 use fork_disk::store::ForkStore;
 use mac_base::zone_spec::ZoneSpec;
 use script_run::{Counted, RunEnd, run, status, tell_no_memory, write_whole};
@@ -46,8 +49,8 @@ struct WrongLine {
 pub fn program<
     T: AsStr,
     F: Drop,
-    S: ForkStore + Drop,
-    J: ForkStore + Drop,
+    S: ForkStore,
+    J: ForkStore,
     O: Opens<F, S, J>,
     R: Read,
     W: Write,
@@ -60,9 +63,10 @@ pub fn program<
     output: &mut Counted<W>,
     messages: &mut Counted<M>,
 ) -> u8
-    ensures ends { (openings : List (Opening F)) × (O.openings opener.new ≡ O.openings opener.old ++ openings)
+    ensures ends { (openings : List (Opening F)) × (closed : List (AnyStore S J))
+        × (O.openings opener.new ≡ O.openings opener.old ++ openings) × (O.closed opener.new ≡ O.closed opener.old ++ closed)
         × Did R.remaining W.contents M.contents input.old input.new output.old output.new messages.old messages.new result
-        (ProgramEnds (record { store = S.ForkStore; with_journal = J.ForkStore; plain = O.plain; pairs = O.pairs }) (map T.text words.now) openings) }
+        (ProgramEnds (record { files = O.asking; store = S.ForkStore; with_journal = J.ForkStore; plain = O.plain; pairs = O.pairs }) (map T.text words.now) openings closed) }
     // Where something failed, the status says so.
     ensures no_read_failed { result ≢ 1 → input.new.failures ≡ input.old.failures }
     ensures no_write_failed { result ≢ 1 → output.new.failures ≡ output.old.failures }
@@ -74,15 +78,7 @@ pub fn program<
 }
 
 /// Does what was asked for, and gives the exit status.
-fn answer<
-    F: Drop,
-    S: ForkStore + Drop,
-    J: ForkStore + Drop,
-    O: Opens<F, S, J>,
-    R: Read,
-    W: Write,
-    M: Write,
->(
+fn answer<F: Drop, S: ForkStore, J: ForkStore, O: Opens<F, S, J>, R: Read, W: Write, M: Write>(
     alloc: Global,
     opener: &mut O,
     asked: Asked<'_>,
@@ -90,9 +86,10 @@ fn answer<
     output: &mut Counted<W>,
     messages: &mut Counted<M>,
 ) -> u8
-    ensures ends { (openings : List (Opening F)) × (O.openings opener.new ≡ O.openings opener.old ++ openings)
+    ensures ends { (openings : List (Opening F)) × (closed : List (AnyStore S J))
+        × (O.openings opener.new ≡ O.openings opener.old ++ openings) × (O.closed opener.new ≡ O.closed opener.old ++ closed)
         × Did R.remaining W.contents M.contents input.old input.new output.old output.new messages.old messages.new result
-        (Answers (record { store = S.ForkStore; with_journal = J.ForkStore; plain = O.plain; pairs = O.pairs }) asked.entry openings) }
+        (Answers (record { files = O.asking; store = S.ForkStore; with_journal = J.ForkStore; plain = O.plain; pairs = O.pairs }) asked.entry openings closed) }
     ensures no_read_failed { result ≢ 1 → input.new.failures ≡ input.old.failures }
     ensures no_write_failed { result ≢ 1 → output.new.failures ≡ output.old.failures }
 {
@@ -103,10 +100,62 @@ fn answer<
 }
 
 /// Runs the script of the input on a new zone and these files, and gives the exit status.
-fn run_over<
+fn run_over<F: Drop, S: ForkStore, J: ForkStore, O: Opens<F, S, J>, R: Read, W: Write, M: Write>(
+    alloc: Global,
+    opener: &mut O,
+    spec: ZoneSpec,
+    files: &Files<'_>,
+    input: &mut Counted<R>,
+    output: &mut Counted<W>,
+    messages: &mut Counted<M>,
+) -> u8
+    ensures ends { (openings : List (Opening F)) × (closed : List (AnyStore S J))
+        × (O.openings opener.new ≡ O.openings opener.old ++ openings) × (O.closed opener.new ≡ O.closed opener.old ++ closed)
+        × Did R.remaining W.contents M.contents input.old input.new output.old output.new messages.old messages.new result
+        (RunEnds (record { files = O.asking; store = S.ForkStore; with_journal = J.ForkStore; plain = O.plain; pairs = O.pairs })
+        spec (map (λ name. name.now) files.now.forks.items) (map (λ name. name.now) files.now.journals.items) openings closed) }
+    ensures no_read_failed { result ≢ 1 → input.new.failures ≡ input.old.failures }
+    ensures no_write_failed { result ≢ 1 → output.new.failures ≡ output.old.failures }
+{
+    if files.journals().is_empty() {
+        return run_alone(alloc, opener, spec, files, input, output, messages);
+    }
+    run_journalled(alloc, opener, spec, files, input, output, messages)
+}
+
+/// Runs the script of the input over these forks alone, and gives the exit status.
+fn run_alone<F: Drop, S: ForkStore, J: ForkStore, O: Opens<F, S, J>, R: Read, W: Write, M: Write>(
+    alloc: Global,
+    opener: &mut O,
+    spec: ZoneSpec,
+    files: &Files<'_>,
+    input: &mut Counted<R>,
+    output: &mut Counted<W>,
+    messages: &mut Counted<M>,
+) -> u8
+    requires { length files.now.journals.items ≡ 0 }
+    ensures ends { (openings : List (Opening F)) × (closed : List (AnyStore S J))
+        × (O.openings opener.new ≡ O.openings opener.old ++ openings) × (O.closed opener.new ≡ O.closed opener.old ++ closed)
+        × Did R.remaining W.contents M.contents input.old input.new output.old output.new messages.old messages.new result
+        (RunEnds (record { files = O.asking; store = S.ForkStore; with_journal = J.ForkStore; plain = O.plain; pairs = O.pairs })
+        spec (map (λ name. name.now) files.now.forks.items) (map (λ name. name.now) files.now.journals.items) openings closed) }
+    ensures no_read_failed { result ≢ 1 → input.new.failures ≡ input.old.failures }
+    ensures no_write_failed { result ≢ 1 → output.new.failures ≡ output.old.failures }
+{
+    let stores = match plain_stores(alloc, opener, files.forks()) {
+        Ok(stores) => stores,
+        Err(fault) => return tell_no_stores(fault, output, messages),
+    };
+    let (status, left) = run_on(alloc, spec, stores, input, output, messages);
+    close_alone(opener, left);
+    status
+}
+
+/// Runs the script of the input over these forks with their journals, and gives the exit status.
+fn run_journalled<
     F: Drop,
-    S: ForkStore + Drop,
-    J: ForkStore + Drop,
+    S: ForkStore,
+    J: ForkStore,
     O: Opens<F, S, J>,
     R: Read,
     W: Write,
@@ -120,43 +169,42 @@ fn run_over<
     output: &mut Counted<W>,
     messages: &mut Counted<M>,
 ) -> u8
-    ensures ends { (openings : List (Opening F)) × (O.openings opener.new ≡ O.openings opener.old ++ openings)
+    requires { length files.now.journals.items ≢ 0 }
+    ensures ends { (openings : List (Opening F)) × (closed : List (AnyStore S J))
+        × (O.openings opener.new ≡ O.openings opener.old ++ openings) × (O.closed opener.new ≡ O.closed opener.old ++ closed)
         × Did R.remaining W.contents M.contents input.old input.new output.old output.new messages.old messages.new result
-        (RunEnds (record { store = S.ForkStore; with_journal = J.ForkStore; plain = O.plain; pairs = O.pairs })
-        spec (map (λ name. name.now) files.now.forks.items) (map (λ name. name.now) files.now.journals.items) openings) }
+        (RunEnds (record { files = O.asking; store = S.ForkStore; with_journal = J.ForkStore; plain = O.plain; pairs = O.pairs })
+        spec (map (λ name. name.now) files.now.forks.items) (map (λ name. name.now) files.now.journals.items) openings closed) }
     ensures no_read_failed { result ≢ 1 → input.new.failures ≡ input.old.failures }
     ensures no_write_failed { result ≢ 1 → output.new.failures ≡ output.old.failures }
 {
-    if files.journals().is_empty() {
-        let stores = plain_stores(alloc, opener, files.forks());
-        return run_on(alloc, spec, stores, input, output, messages);
-    }
-    let stores = journalled_stores(alloc, opener, files.forks(), files.journals());
-    run_on(alloc, spec, stores, input, output, messages)
-}
-
-/// Runs the script of the input on a new zone and these stores, and gives the exit status.
-fn run_on<S: ForkStore + Drop, R: Read, W: Write, M: Write>(
-    alloc: Global,
-    spec: ZoneSpec,
-    stores: Result<Vec<S>, NoStores<'_>>,
-    input: &mut Counted<R>,
-    output: &mut Counted<W>,
-    messages: &mut Counted<M>,
-) -> u8
-    requires { IfOk stores (λ stores. length stores.items ≤ most_files) }
-    ensures ends { Did R.remaining W.contents M.contents input.old input.new output.old output.new messages.old messages.new result (RunsOn S.ForkStore spec stores.entry) }
-    ensures no_read_failed { result ≢ 1 → input.new.failures ≡ input.old.failures }
-    ensures no_write_failed { result ≢ 1 → output.new.failures ≡ output.old.failures }
-{
-    let stores = match stores {
+    let stores = match journalled_stores(alloc, opener, files.forks(), files.journals()) {
         Ok(stores) => stores,
         Err(fault) => return tell_no_stores(fault, output, messages),
     };
+    let (status, left) = run_on(alloc, spec, stores, input, output, messages);
+    close_journalled(opener, left);
+    status
+}
+
+/// Runs the script of the input on a new zone and these stores. It gives the exit status, and the stores as they are
+/// then.
+fn run_on<S: ForkStore, R: Read, W: Write, M: Write>(
+    alloc: Global,
+    spec: ZoneSpec,
+    stores: Vec<S>,
+    input: &mut Counted<R>,
+    output: &mut Counted<W>,
+    messages: &mut Counted<M>,
+) -> (u8, Vec<S>)
+    requires { length stores.items ≤ most_files }
+    ensures ends { Did R.remaining W.contents M.contents input.old input.new output.old output.new messages.old messages.new result.0 (RunsOver S.ForkStore spec stores.items result.1.items) }
+    ensures no_read_failed { result.0 ≢ 1 → input.new.failures ≡ input.old.failures }
+    ensures no_write_failed { result.0 ≢ 1 → output.new.failures ≡ output.old.failures }
+{
     let (end, stores) = run(alloc, input, output, spec, stores);
-    drop(stores);
     tell_wrong(alloc, end, messages);
-    status(end)
+    (status(end), stores)
 }
 
 /// Writes what is wrong with the first line that is none, where that ended a run.

@@ -1,22 +1,38 @@
 //! The stores of a run.
 
-ghost use Rattle.std.specs.Prelude.{◌≡◌, ◌≤◌, ◌++◌, ◌∷◌, [], List, ℕ, Result, Ok, length, map, IfOk, IfErr};
+ghost use Rattle.std.specs.Prelude.{◌≡◌, ◌≤◌, ◌++◌, ◌∷◌, [], List, ℕ, Result, Ok, length, map, IfOk, IfErr, OnOk};
+ghost use Rattle.macheap.specs.Claiming.{AreNamed, Asking, IsOpening};
 ghost use Rattle.macheap.specs.declared.opened.NotOpened.{NotOpened};
+ghost use Rattle.macheap.specs.declared.stores.AnyStore.{AnyStore};
+ghost use Rattle.macheap.specs.declared.stores.AnyStore.TheVariants.{Alone, Journalled};
 ghost use Rattle.macheap.specs.Files.{most_files};
-ghost use Rattle.macheap.specs.Stores.{AreJournalled, AreOn, ArePlain, Asked, IsOpened, Opening};
+ghost use Rattle.macheap.specs.Stores.{AreJournalled, AreOn, ArePaired, ArePairs, ArePlain, Asked, IsOpened, Opening};
 
+use crate::claimed;
+use crate::claimed::{FileId, Naming};
 use crate::disk::Disk;
 use crate::opened::{NewFile, NotOpened, OpenedFiles, note};
 use fork_disk::store::{ForkStore, PlainStore};
-use fork_disk::{FileDisk, HostFile, MemDisk, Record, World};
+use fork_disk::{FileDisk, MemDisk, Record, World};
 use fork_journal::{FilePair, Journal, PairWorld};
 use std::alloc::{AllocError, AllocFailed, Global};
-use std::marker::PhantomData;
+
+/// A store of a run: `S` of a fork alone, or `J` of a fork with its journal.
+#[derive(Drop)]
+pub enum AnyStore<S, J> {
+    /// Of a fork alone.
+    Alone(S),
+    /// Of a fork with its journal.
+    Journalled(J),
+}
 
 /// What opens the files of a run, and makes stores of them: `S` of a fork alone, and `J` of a fork with its journal.
 pub trait Opens<F, S: ForkStore, J: ForkStore> {
     /// The files that were asked for so far, in order: the path of each, and the file, or why it can't be opened.
     ghost openings: { Self → List (List ℕ × Result F NotOpened) };
+
+    /// The stores that were closed so far, in order, each as it was then.
+    ghost closed: { Self → List (AnyStore S J) };
 
     /// What is a store of this number of a fork, which is this file.
     ghost plain: { ℕ → F → S → Type 0 };
@@ -24,9 +40,19 @@ pub trait Opens<F, S: ForkStore, J: ForkStore> {
     /// What is a store of this number of a fork and its journal, which are these files.
     ghost pairs: { ℕ → F → F → J → Type 0 };
 
-    /// The file of a path, which is made where it is missing, or why it can't be opened.
-    fn open(&mut self, path: &str) -> Result<F, NotOpened>
-        ensures { openings self.new ≡ openings self.old ++ (path.now, result) ∷ [] };
+    /// What is asked of a file: its path, which file it is, and whether it is locked.
+    ghost asking: { Asking F };
+
+    /// The file of a path, which is made where it is missing, and locked, or why it can't be opened. One of those that
+    /// were opened before it is locked already: where each may be named once, it is refused.
+    fn open(&mut self, path: &str, naming: Naming, known: &[FileId]) -> Result<F, NotOpened>
+        ensures noted { openings self.new ≡ openings self.old ++ (path.now, result) ∷ [] }
+        ensures none_closed { closed self.new ≡ closed self.old }
+        ensures opens { IsOpening asking naming known.now path.now result };
+
+    /// Which file it is.
+    fn id(&self, file: &F) -> FileId
+        ensures { result ≡ asking.id file.now };
 
     /// A store in memory, without bytes.
     fn in_memory(&self) -> S
@@ -41,50 +67,68 @@ pub trait Opens<F, S: ForkStore, J: ForkStore> {
     /// The store of a fork and its journal, each in a file. No other store of the run may have its number.
     fn journalled(&self, fork: F, journal: F, number: u64) -> J
         ensures { pairs number fork journal result };
+
+    /// Closes a store as it is.
+    fn close(&mut self, store: AnyStore<S, J>)
+        ensures closed { closed self.new ≡ closed self.old ++ store ∷ [] }
+        ensures none_opened { openings self.new ≡ openings self.old };
 }
 
-/// Opens the host's files, and disks in its memory. `W` says what the files of forks alone hold, and `V` what those
-/// with journals hold. Each file that is asked for is noted, in a list that only clauses read.
+/// Closes a store, and notes it as it is.
+fn note_closed<T: Drop>(closed: &mut Record<T>, store: T)
+    ensures { closed.new.events ≡ closed.old.events ++ store ∷ [] }
+{
+    *closed = Record::of_events_beside(closed, &store, &());
+}
+
+/// Opens the host's files, and disks in its memory. Each file that is asked for is noted, and each store that is closed,
+/// in lists that only clauses read.
 #[derive(Drop)]
-pub struct HostDisks<'a, W: World, V: PairWorld> {
+pub struct HostDisks<'a, S, J> {
     runtime: &'a HostRuntime,
     opened: OpenedFiles,
-    world: PhantomData<W>,
-    pair_world: PhantomData<V>,
+    closed: Record<AnyStore<S, J>>,
 }
 
-impl<'a, W: World, V: PairWorld> HostDisks<'a, W, V> {
-    /// Opens the files of this host. None was asked for so far.
-    pub fn new(runtime: &'a HostRuntime) -> HostDisks<'a, W, V>
-        ensures { result.opened.events ≡ [] }
+impl<'a, S, J> HostDisks<'a, S, J> {
+    /// Opens the files of this host. None was asked for so far, and no store closed.
+    pub fn new(runtime: &'a HostRuntime) -> HostDisks<'a, S, J>
+        ensures none_opened { result.opened.events ≡ [] }
+        ensures none_closed { result.closed.events ≡ [] }
     {
         HostDisks {
             runtime,
             opened: Record::new(),
-            world: PhantomData,
-            pair_world: PhantomData,
+            closed: Record::new(),
         }
     }
 }
 
+/// `W` says what the files of forks alone hold, and `V` what those with journals hold.
 impl<W: World, V: PairWorld> Opens<NewFile, PlainStore<Disk<W>>, Journal<FilePair<V>>>
-    for HostDisks<'_, W, V> {
+    for HostDisks<'_, PlainStore<Disk<W>>, Journal<FilePair<V>>> {
     ghost use Rattle.macheap.specs.Disks.{IsFile};
+    ghost use Rattle.macheap.specs.Claiming.{as_opened};
 
     ghost openings = { λ opener. opener.opened.events };
+
+    ghost closed = { λ opener. opener.closed.events };
+
+    ghost asking = { as_opened };
 
     ghost plain = { λ number fork store. IsFile number fork store.disk };
 
     ghost pairs = { λ number fork journal store. (store.pair.fork ≡ record fork.file { which = 0 })
         × (store.pair.journal ≡ record journal.file { which = 1 }) × (store.pair.number ≡ number) × (store.pair.log.events ≡ []) };
 
-    fn open(&mut self, path: &str) -> Result<NewFile, NotOpened> {
-        let file = match HostFile::open(self.runtime, path) {
-            Ok(file) => Ok(NewFile { file }),
-            Err(error) => Err(NotOpened::because(error.kind())),
-        };
+    fn open(&mut self, path: &str, naming: Naming, known: &[FileId]) -> Result<NewFile, NotOpened> {
+        let file = claimed::open(self.runtime, path, naming, known);
         note(&mut self.opened, path, &file);
         file
+    }
+
+    fn id(&self, file: &NewFile) -> FileId {
+        file.id
     }
 
     fn in_memory(&self) -> PlainStore<Disk<W>> {
@@ -104,6 +148,13 @@ impl<W: World, V: PairWorld> Opens<NewFile, PlainStore<Disk<W>>, Journal<FilePai
             self.runtime.alloc(),
             FilePair::new(fork.file, journal.file, number),
         )
+    }
+
+    fn close(&mut self, store: AnyStore<PlainStore<Disk<W>>, Journal<FilePair<V>>>)
+        ensures closed { self.new.closed.events ≡ self.old.closed.events ++ store ∷ [] }
+        ensures none_opened { self.new.opened.events ≡ self.old.opened.events }
+    {
+        note_closed(&mut self.closed, store);
     }
 }
 
@@ -139,20 +190,22 @@ impl<'a, S: Drop> From<AllocFailed<S>> for NoStores<'a> {
 }
 
 /// The stores of the forks in the files of these paths: where there are none, one in memory.
-pub fn plain_stores<'a, F: Drop, S: ForkStore + Drop, J: ForkStore, O: Opens<F, S, J>>(
+pub fn plain_stores<'a, F: Drop, S: ForkStore, J: ForkStore, O: Opens<F, S, J>>(
     alloc: Global,
     opener: &mut O,
     paths: &[&'a str],
 ) -> Result<Vec<S>, NoStores<'a>>
     requires { length paths.now ≤ most_files }
     ensures stores { (openings : List (Opening F)) × (O.openings opener.new ≡ O.openings opener.old ++ openings)
-        × IsOpened (map (λ path. path.now) paths.now) openings (ArePlain S.ForkStore O.plain (map (λ path. path.now) paths.now) openings) result }
+        × IsOpened Naming.Repeated (map (λ path. path.now) paths.now) openings (ArePlain O.asking S.ForkStore O.plain (map (λ path. path.now) paths.now) openings) result }
     ensures few { IfOk result (λ stores. length stores.items ≤ most_files) }
+    ensures none_closed { O.closed opener.new ≡ O.closed opener.old }
 {
     if paths.is_empty() {
         return one_in_memory(alloc, opener);
     }
-    let forks = match opened(alloc, opener, paths) {
+    let mut known = Vec::new(alloc);
+    let forks = match opened(alloc, opener, Naming::Repeated, paths, &mut known) {
         Ok(forks) => forks,
         Err(fault) => return Err(fault),
     };
@@ -160,21 +213,21 @@ pub fn plain_stores<'a, F: Drop, S: ForkStore + Drop, J: ForkStore, O: Opens<F, 
 }
 
 /// One store in memory.
-fn one_in_memory<'a, F: Drop, S: ForkStore + Drop, J: ForkStore, O: Opens<F, S, J>>(
+fn one_in_memory<'a, F: Drop, S: ForkStore, J: ForkStore, O: Opens<F, S, J>>(
     alloc: Global,
     opener: &O,
 ) -> Result<Vec<S>, NoStores<'a>>
-    ensures stores { IfOk result (λ stores. ArePlain S.ForkStore O.plain [] [] stores.items) }
+    ensures stores { IfOk result (λ stores. ArePlain O.asking S.ForkStore O.plain [] [] stores.items) }
     ensures few { IfOk result (λ stores. length stores.items ≤ most_files) }
     ensures full { IfErr result (λ fault. fault ≡ NoStores.HostFull) }
 {
-    let mut stores = Vec::new(alloc);
-    stores.push(opener.in_memory())?;
+    let mut stores = Vec::with_capacity(alloc, 1)?;
+    stores.push_reserved(opener.in_memory());
     Ok(stores)
 }
 
 /// The stores of the forks in these files, numbered as they come.
-fn stores_on<'a, F: Drop, S: ForkStore + Drop, J: ForkStore, O: Opens<F, S, J>>(
+fn stores_on<'a, F: Drop, S: ForkStore, J: ForkStore, O: Opens<F, S, J>>(
     alloc: Global,
     opener: &O,
     forks: Vec<F>,
@@ -183,16 +236,17 @@ fn stores_on<'a, F: Drop, S: ForkStore + Drop, J: ForkStore, O: Opens<F, S, J>>(
     ensures count { IfOk result (λ stores. length stores.items ≡ length forks.items) }
     ensures full { IfErr result (λ fault. fault ≡ NoStores.HostFull) }
 {
-    let mut stores = Vec::new(alloc);
+    let mut stores = Vec::with_capacity(alloc, forks.len())?;
     for fork in forks {
         let number = stores.len();
-        stores.push(opener.plain(fork, number as u64))?;
+        stores.push_reserved(opener.plain(fork, number as u64));
     }
     Ok(stores)
 }
 
-/// The stores of the forks and the journals in the files of these paths. All forks are opened first.
-pub fn journalled_stores<'a, F: Drop, S: ForkStore, J: ForkStore + Drop, O: Opens<F, S, J>>(
+/// The stores of the forks and the journals in the files of these paths. All forks are opened first. No file may be named
+/// twice: what one journal has would be put into the fork of another.
+pub fn journalled_stores<'a, F: Drop, S: ForkStore, J: ForkStore, O: Opens<F, S, J>>(
     alloc: Global,
     opener: &mut O,
     paths: &[&'a str],
@@ -200,49 +254,141 @@ pub fn journalled_stores<'a, F: Drop, S: ForkStore, J: ForkStore + Drop, O: Open
 ) -> Result<Vec<J>, NoStores<'a>>
     requires { length journals.now ≡ length paths.now }
     ensures stores { (openings : List (Opening F)) × (O.openings opener.new ≡ O.openings opener.old ++ openings)
-        × (let all = map (λ path. path.now) paths.now ++ map (λ path. path.now) journals.now in IsOpened all openings (AreJournalled O.pairs all openings) result) }
+        × (let all = map (λ path. path.now) paths.now ++ map (λ path. path.now) journals.now in IsOpened Naming.Once all openings (AreJournalled O.asking O.pairs all openings) result) }
     ensures count { IfOk result (λ stores. length stores.items ≡ length paths.now) }
+    ensures none_closed { O.closed opener.new ≡ O.closed opener.old }
 {
-    let forks = match opened(alloc, opener, paths) {
-        Ok(forks) => forks,
+    let pairs = match opened_pairs(alloc, opener, paths, journals) {
+        Ok(pairs) => pairs,
         Err(fault) => return Err(fault),
     };
-    let mut stores = Vec::new(alloc);
-    for fork in forks {
+    pairs_on(alloc, opener, pairs)
+}
+
+/// The stores of these forks and their journals, numbered as they come.
+fn pairs_on<'a, F: Drop, S: ForkStore, J: ForkStore, O: Opens<F, S, J>>(
+    alloc: Global,
+    opener: &O,
+    pairs: Vec<(F, F)>,
+) -> Result<Vec<J>, NoStores<'a>>
+    ensures stores { IfOk result (λ stores. ArePaired O.pairs 0 (map (λ pair. pair.0) pairs.items) (map (λ pair. pair.1) pairs.items) stores.items) }
+    ensures count { IfOk result (λ stores. length stores.items ≡ length pairs.items) }
+    ensures full { IfErr result (λ fault. fault ≡ NoStores.HostFull) }
+{
+    let mut stores = Vec::with_capacity(alloc, pairs.len())?;
+    for pair in pairs {
+        let (fork, journal) = pair;
         let number = stores.len();
-        let journal = match opener.open(journals[number]) {
-            Ok(journal) => journal,
-            Err(why) => return Err(NoStores::CannotOpen(journals[number], why)),
-        };
-        let store = opener.journalled(fork, journal, number as u64);
-        match stores.push(store) {
-            Ok(()) => {}
-            Err(_) => return Err(NoStores::HostFull),
-        }
+        stores.push_reserved(opener.journalled(fork, journal, number as u64));
     }
     Ok(stores)
 }
 
-/// The files of these paths.
-fn opened<'a, F: Drop, S: ForkStore, J: ForkStore, O: Opens<F, S, J>>(
+/// The files of the forks and the journals of these paths, a fork with its journal. All forks are opened first.
+fn opened_pairs<'a, F: Drop, S: ForkStore, J: ForkStore, O: Opens<F, S, J>>(
     alloc: Global,
     opener: &mut O,
     paths: &[&'a str],
+    journals: &[&'a str],
+) -> Result<Vec<(F, F)>, NoStores<'a>>
+    requires { length journals.now ≡ length paths.now }
+    ensures pairs { (openings : List (Opening F)) × (O.openings opener.new ≡ O.openings opener.old ++ openings)
+        × (let all = map (λ path. path.now) paths.now ++ map (λ path. path.now) journals.now in IsOpened Naming.Once all openings (ArePairs O.asking all openings) result) }
+    ensures count { IfOk result (λ pairs. length pairs.items ≡ length paths.now) }
+    ensures none_closed { O.closed opener.new ≡ O.closed opener.old }
+{
+    let mut known = Vec::new(alloc);
+    let forks = match opened(alloc, opener, Naming::Once, paths, &mut known) {
+        Ok(forks) => forks,
+        Err(fault) => return Err(fault),
+    };
+    let mut pairs = Vec::new(alloc);
+    for fork in forks {
+        let name = journals[pairs.len()];
+        let journal = match opener.open(name, Naming::Once, known.as_slice()) {
+            Ok(journal) => journal,
+            Err(why) => return Err(NoStores::CannotOpen(name, why)),
+        };
+        let id = opener.id(&journal);
+        match push_both(&mut pairs, (fork, journal), &mut known, id) {
+            Ok(()) => {}
+            Err(_) => return Err(NoStores::HostFull),
+        }
+    }
+    Ok(pairs)
+}
+
+/// Adds an item, and which file it is of.
+fn push_both<T: Drop>(
+    items: &mut Vec<T>,
+    item: T,
+    known: &mut Vec<FileId>,
+    id: FileId,
+) -> Result<(), AllocError>
+    ensures items { OnOk result (items.new.items ≡ items.old.items ++ item ∷ []) }
+    ensures known { OnOk result (known.new.items ≡ known.old.items ++ id ∷ []) }
+{
+    known.push(id)?;
+    items.push(item)?;
+    Ok(())
+}
+
+/// The files of these paths, where these were opened before them; they are added to those.
+fn opened<'a, F: Drop, S: ForkStore, J: ForkStore, O: Opens<F, S, J>>(
+    alloc: Global,
+    opener: &mut O,
+    naming: Naming,
+    paths: &[&'a str],
+    known: &mut Vec<FileId>,
 ) -> Result<Vec<F>, NoStores<'a>>
     ensures files { (openings : List (Opening F)) × (O.openings opener.new ≡ O.openings opener.old ++ openings)
-        × IsOpened (map (λ path. path.now) paths.now) openings (λ files. Asked (map (λ path. path.now) paths.now) (map Ok files) openings) result }
+        × IsOpened naming (map (λ path. path.now) paths.now) openings (λ files. Asked (map (λ path. path.now) paths.now) (map Ok files) openings) result }
     ensures count { IfOk result (λ files. length files.items ≡ length paths.now) }
+    ensures named { IfOk result (λ files. AreNamed O.asking naming known.old.items (map (λ path. path.now) paths.now) files.items) }
+    ensures known { IfOk result (λ files. known.new.items ≡ known.old.items ++ map O.asking.id files.items) }
+    ensures none_closed { O.closed opener.new ≡ O.closed opener.old }
 {
     let mut files = Vec::new(alloc);
     for path in paths {
-        let file = match opener.open(path) {
+        let file = match opener.open(path, naming, known.as_slice()) {
             Ok(file) => file,
             Err(why) => return Err(NoStores::CannotOpen(path, why)),
         };
-        match files.push(file) {
+        let id = opener.id(&file);
+        match push_both(&mut files, file, known, id) {
             Ok(()) => {}
             Err(_) => return Err(NoStores::HostFull),
         }
     }
     Ok(files)
+}
+
+/// Closes these stores of forks alone, as they are.
+pub fn close_alone<F: Drop, S: ForkStore, J: ForkStore, O: Opens<F, S, J>>(
+    opener: &mut O,
+    stores: Vec<S>,
+)
+    ensures closed { O.closed opener.new ≡ O.closed opener.old ++ map Alone stores.items }
+    ensures none_opened { O.openings opener.new ≡ O.openings opener.old }
+{
+    let mut left = stores.into_iter();
+    while let Some(store) = left.next() {
+        opener.close(AnyStore::Alone(store));
+    }
+    left.destroy_empty();
+}
+
+/// Closes these stores of forks with their journals, as they are.
+pub fn close_journalled<F: Drop, S: ForkStore, J: ForkStore, O: Opens<F, S, J>>(
+    opener: &mut O,
+    stores: Vec<J>,
+)
+    ensures closed { O.closed opener.new ≡ O.closed opener.old ++ map Journalled stores.items }
+    ensures none_opened { O.openings opener.new ≡ O.openings opener.old }
+{
+    let mut left = stores.into_iter();
+    while let Some(store) = left.next() {
+        opener.close(AnyStore::Journalled(store));
+    }
+    left.destroy_empty();
 }

@@ -6,6 +6,7 @@ use Rattle.std.proofs.lemmas.Bool.Decides.{nat_tests}
 use Rattle.mac_base.specs.ZoneSizes.{ZoneSizes}
 use Rattle.raw_region.specs.State.{State as Region}
 use Rattle.held_zone.specs.Asleep.{IsSettled, SleepsOn}
+use Rattle.held_zone.specs.Fields.{managed}
 use Rattle.held_zone.specs.declared.waking.WhyAsleep.{WhyAsleep}
 use Rattle.held_zone.specs.declared.waking.WhyAsleep.TheVariants.{Damaged, Unlocked}
 use Rattle.held_zone.specs.State.{State, IsNew}
@@ -32,7 +33,7 @@ as_told Unlocked = refl
 
 -- a zone that doesn't wake
 pub not_woken : (old : State) (memory after : Option Region) (zone asleep : Option State) (region given : Region) (why : WhyAsleep) (code : ℤ)
-    → memory ≡ Some region → length region.bytes ≡ old.zone.shape.limit → SleepsOn why old region.bytes → code ≡ code_asleep why → given ≡ region
+    → memory ≡ Some region → length region.bytes ≡ old.zone.shape.limit → SleepsOn why old (managed region.bytes) → code ≡ code_asleep why → given ≡ region
     → zone ≡ None → asleep ≡ Some old → after ≡ Some given → IsWoken None (Some old) memory code zone asleep after
 not_woken old memory after zone asleep region given why code there long on told same none sleeps back =
     subst (λ (m : Option Region). IsWoken None (Some old) m code zone asleep after) (sym there)

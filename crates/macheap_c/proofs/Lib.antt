@@ -1,2 +1,3 @@
 mod Guests
 mod Checking
+mod Images

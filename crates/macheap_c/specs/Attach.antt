@@ -8,6 +8,8 @@ use Rattle.mac_base.specs.ZoneSizes.{ZoneSizes}
 use Rattle.mac_base.specs.ZoneState.{ZoneState}
 use Rattle.raw_region.specs.State.{State as Region}
 use Rattle.held_zone.specs.Attaching.{IsIdle, IsZoneOf}
+use Rattle.held_zone.specs.declared.fields.GuestFields.{GuestFields}
+use Rattle.held_zone.specs.Fields.{fields_in, managed}
 use Rattle.held_zone.specs.State.{State}
 use Rattle.macheap_c.specs.Guest.{damaged}
 
@@ -17,26 +19,26 @@ abbrev pub code_of_why : WhyNot → ℤ
 code_of_why HostFull = minus 108
 code_of_why NotZone = damaged
 
--- there is a zone that is such a one, and nothing else; or none, since the host has no memory (memFullErr), or since no
--- zone is such a one (memSCErr)
-abbrev pub Finds : (ZoneState → Type 0) → ℤ → Option State → Type 0
-Finds Is code (Some new) = (code ≡ pos 0) × Is new.zone × IsIdle new
-Finds Is code None = (code ≡ minus 108) ⊎ ((code ≡ damaged) × ((z : ZoneState) → Is z → ⊥))
+-- there is a zone that is such a one, with these fields of a guest's, and nothing else; or none, since the host has no
+-- memory (memFullErr), or since no zone is such a one (memSCErr)
+abbrev pub Finds : (ZoneState → Type 0) → GuestFields → ℤ → Option State → Type 0
+Finds Is guest code (Some new) = (code ≡ pos 0) × Is new.zone × (new.guest ≡ guest) × IsIdle new
+Finds Is guest code None = (code ≡ minus 108) ⊎ ((code ≡ damaged) × ((z : ZoneState) → Is z → ⊥))
 
 -- the same where there are as many bytes as there have to be; else the answer is paramErr
-abbrev pub FindsWhere : Bool → (ZoneState → Type 0) → ℤ → Option State → Type 0
-FindsWhere true Is code new = Finds Is code new
-FindsWhere false Is code new = (code ≡ minus 50) × (new ≡ None)
+abbrev pub FindsWhere : Bool → (ZoneState → Type 0) → GuestFields → ℤ → Option State → Type 0
+FindsWhere true Is guest code new = Finds Is guest code new
+FindsWhere false Is guest code new = (code ≡ minus 50) × (new ≡ None)
 
--- The zone that is in bytes, as many as its limit, is made asleep where none sleeps. The bytes are as they were. Else
--- the answer is paramErr, and all stays.
+-- The zone that is in bytes, as many as its limit, is made asleep where none sleeps, whatever the guest's fields say. The
+-- bytes are as they were. Else the answer is paramErr, and all stays.
 abbrev pub IsAttached : Option State → Option ZoneSizes → Option Region → ℤ → Option State → Option Region → Type 0
 IsAttached None (Some sizes) (Some region) code asleep memory =
-    FindsWhere (length region.bytes == sizes.limit) (IsZoneIn sizes region.bytes) code asleep × (memory ≡ Some region)
+    FindsWhere (length region.bytes == sizes.limit) (IsZoneIn sizes (managed region.bytes)) (fields_in region.bytes) code asleep × (memory ≡ Some region)
 IsAttached old sizes region code asleep memory = (code ≡ minus 50) × (asleep ≡ old) × (memory ≡ region)
 
--- The zone of which these are the bytes, as many as its size, is made where there is none. Else the answer is paramErr,
--- and all stays.
+-- The zone of which these are the bytes, as many as its size, is made where there is none, with the guest's fields that
+-- they have. Else the answer is paramErr, and all stays.
 abbrev pub IsMadeOf : Option State → Option ZoneSizes → List ℕ → ℤ → Option State → Type 0
-IsMadeOf None (Some sizes) image code zone = FindsWhere (length image == sizes.size) (IsZoneOf sizes image) code zone
+IsMadeOf None (Some sizes) image code zone = FindsWhere (length image == sizes.size) (IsZoneOf sizes (managed image)) (fields_in image) code zone
 IsMadeOf old sizes image code zone = (code ≡ minus 50) × (zone ≡ old)

@@ -7,7 +7,8 @@ use Rattle.mac_base.specs.Codes.{minus}
 use Rattle.mac_base.specs.declared.block.Block.{Block}
 use Rattle.mac_base.specs.ZoneState.{ZoneState}
 use Rattle.raw_region.specs.State.{State as Region}
-use Rattle.held_zone.specs.Asleep.{IsSettled}
+use Rattle.held_zone.specs.Fields.{managed}
+use Rattle.held_zone.specs.Repairing.{IsMended}
 use Rattle.held_zone.specs.State.{State}
 use Rattle.held_zone.specs.Told.{no_zone}
 use Rattle.zone_records.specs.declared.structure.Part.{Part}
@@ -17,25 +18,27 @@ use Rattle.macheap_c.specs.declared.walk.MhBlock.{MhBlock}
 use Rattle.macheap_c.specs.Guest.{damaged}
 use Rattle.macheap_c.specs.Walk.{shown_block}
 
--- the bytes have the structure of a zone then, and all others are as they were
-abbrev pub Repaired : State → Region → ℤ → Option Region → Type 0
-Repaired s region code (Some kept) = (code ≡ pos 0) × IsSettled s region kept
-Repaired s region code None = ⊥
+-- the bytes have the structure of a zone then, with the flags that the guest set; the guest's fields of the header and all
+-- other bytes are as they were
+abbrev pub Repaired : State → Region → ℤ → State → Option Region → Type 0
+Repaired old region code new (Some kept) = (code ≡ pos 0) × IsMended old region kept new
+Repaired old region code new None = ⊥
 
 -- bytes that aren't as many as the zone's limit are refused: paramErr
-abbrev pub RepairsWhere : Bool → State → Region → ℤ → Option Region → Type 0
-RepairsWhere true s region code memory = Repaired s region code memory
-RepairsWhere false s region code memory = (code ≡ minus 50) × (memory ≡ Some region)
+abbrev pub RepairsWhere : Bool → State → Region → ℤ → State → Option Region → Type 0
+RepairsWhere true old region code new memory = Repaired old region code new memory
+RepairsWhere false old region code new memory = (code ≡ minus 50) × (new ≡ old) × (memory ≡ Some region)
 
 -- so is it where there are none
-abbrev pub RepairsIn : State → Option Region → ℤ → Option Region → Type 0
-RepairsIn s (Some region) code memory = RepairsWhere (length region.bytes == s.zone.shape.limit) s region code memory
-RepairsIn s None code memory = (code ≡ minus 50) × (memory ≡ None)
+abbrev pub RepairsIn : State → Option Region → ℤ → State → Option Region → Type 0
+RepairsIn old (Some region) code new memory = RepairsWhere (length region.bytes == old.zone.shape.limit) old region code new memory
+RepairsIn old None code new memory = (code ≡ minus 50) × (new ≡ old) × (memory ≡ None)
 
--- The bytes of a zone that sleeps are repaired, and it sleeps on as it was. Where none sleeps, the answer is paramErr,
--- and the bytes stay.
+-- The bytes of a zone that sleeps are repaired, and it sleeps on, with the flags that are in them. Where none sleeps, the
+-- answer is paramErr, and the bytes stay.
 abbrev pub IsRepaired : Option State → Option Region → ℤ → Option State → Option Region → Type 0
-IsRepaired (Some old) old_memory code asleep memory = RepairsIn old old_memory code memory × (asleep ≡ Some old)
+IsRepaired (Some old) old_memory code (Some new) memory = RepairsIn old old_memory code new memory
+IsRepaired (Some old) old_memory code None memory = ⊥
 IsRepaired None old_memory code asleep memory = (code ≡ minus 50) × (asleep ≡ None) × (memory ≡ old_memory)
 
 -- the number of a part of a zone's structure
@@ -44,11 +47,12 @@ part_number ZoneHeader = 1
 part_number BlockHeader = 2
 part_number MasterPointer = 3
 
--- bytes have the structure of a zone, or the first that isn't as it calls for is shown, and the part that it is in
+-- bytes have the structure of a zone, whatever the guest's fields say, or the first that isn't as it calls for is shown,
+-- and the part that it is in
 abbrev pub Checks : State → Region → ℤ → MhFault → MhFault → Type 0
 Checks s region code before fault =
-    (HasStructure s.zone region.bytes × (code ≡ pos 0) × (fault ≡ before))
-    ⊎ ((part : Part) × IsFirstFault s.zone region.bytes fault.offset part × (fault.part ≡ part_number part) × (code ≡ damaged))
+    (HasStructure s.zone (managed region.bytes) × (code ≡ pos 0) × (fault ≡ before))
+    ⊎ ((part : Part) × IsFirstFault s.zone (managed region.bytes) fault.offset part × (fault.part ≡ part_number part) × (code ≡ damaged))
 
 -- bytes that aren't as many as the zone's limit are refused: paramErr
 abbrev pub ChecksWhere : Bool → State → Region → ℤ → MhFault → MhFault → Type 0

@@ -7,7 +7,8 @@ use Rattle.mac_base.specs.Codes.{code_of, minus}
 use Rattle.mac_base.specs.declared.error.OsErr.{OsErr}
 use Rattle.mac_base.specs.ZoneSizes.{ZoneSizes}
 use Rattle.raw_region.specs.State.{State as Region}
-use Rattle.held_zone.specs.Asleep.{FallsAsleep, IsInRegion, IsSettled, SleepsOn, WakesAsBefore, all_back, all_lendable, awake_in, sleep_refusal}
+use Rattle.held_zone.specs.Asleep.{IsGivenBack, IsSettled, SleepsOn, all_lendable, awake_in, sleep_refusal}
+use Rattle.held_zone.specs.Fields.{managed}
 use Rattle.held_zone.specs.declared.waking.WhyAsleep.{WhyAsleep}
 use Rattle.held_zone.specs.declared.waking.WhyAsleep.TheVariants.{Damaged, Unlocked}
 use Rattle.held_zone.specs.State.{State, IsNew}
@@ -25,12 +26,12 @@ code_asleep Unlocked = minus 117
 abbrev pub Refused : Option State → Option State → Option Region → ℤ → Option State → Option State → Option Region → Type 0
 Refused zone asleep memory code new_zone new_asleep new_memory = (code ≡ minus 50) × (new_zone ≡ zone) × (new_asleep ≡ asleep) × (new_memory ≡ memory)
 
--- a zone wakes in bytes that have its structure, with what is lent, and the bytes are gone then; or it sleeps on, and
--- they are as they were
+-- a zone wakes in bytes that have its structure, whatever the guest's fields say, with what is lent, and the bytes are
+-- gone then; or it sleeps on, and they are as they were
 abbrev pub WakesIn : State → Region → ℤ → Option State → Option State → Option Region → Type 0
 WakesIn old region code zone asleep memory =
-    (HasStructure old.zone region.bytes × IsTrue (all_lendable old region.bytes) × (code ≡ pos 0) × (zone ≡ Some (awake_in region old)) × (asleep ≡ None) × (memory ≡ None))
-    ⊎ ((why : WhyAsleep) × SleepsOn why old region.bytes × (code ≡ code_asleep why) × (zone ≡ None) × (asleep ≡ Some old) × (memory ≡ Some region))
+    (HasStructure old.zone (managed region.bytes) × IsTrue (all_lendable old (managed region.bytes)) × (code ≡ pos 0) × (zone ≡ Some (awake_in region old)) × (asleep ≡ None) × (memory ≡ None))
+    ⊎ ((why : WhyAsleep) × SleepsOn why old (managed region.bytes) × (code ≡ code_asleep why) × (zone ≡ None) × (asleep ≡ Some old) × (memory ≡ Some region))
 
 -- bytes that aren't as many as the zone's limit are refused
 abbrev pub WakesWhere : Bool → State → Region → ℤ → Option State → Option State → Option Region → Type 0
@@ -42,16 +43,16 @@ abbrev pub IsWoken : Option State → Option State → Option Region → ℤ →
 IsWoken None (Some old) (Some region) code zone asleep memory = WakesWhere (length region.bytes == old.zone.shape.limit) old region code zone asleep memory
 IsWoken old_zone old_asleep old_memory code zone asleep memory = Refused old_zone old_asleep old_memory code zone asleep memory
 
--- What the host promises of a zone that sleeps, where bytes are there for it, as many as its limit: they differ only in
--- these ranges from bytes with its structure and its flags.
+-- What the host promises of a zone that sleeps, where bytes are there for it, as many as its limit: but for the guest's
+-- fields, they differ only in these ranges from bytes with its structure and its flags.
 abbrev pub IsTold : Option State → Option Region → List Written → Type 0
-IsTold (Some old) (Some region) ranges = length region.bytes ≡ old.zone.shape.limit → DifferIn old.zone region.bytes ranges
+IsTold (Some old) (Some region) ranges = length region.bytes ≡ old.zone.shape.limit → DifferIn old.zone (managed region.bytes) ranges
 IsTold old region ranges = ⊤
 
--- the zone sleeps, and the bytes in which it was are there again, with what C left in the blocks that were lent. It
--- wakes in them as it was
+-- the zone sleeps, and the bytes in which it was are there again, with what C left in the blocks that were lent and what
+-- the guest left in its fields of the header. It wakes in them as it was
 abbrev pub SleepsOutOf : State → Option State → Option Region → Type 0
-SleepsOutOf old (Some new) (Some region) = FallsAsleep old region new × IsInRegion (all_back old) region × WakesAsBefore old region new
+SleepsOutOf old (Some new) (Some region) = IsGivenBack old region new
 SleepsOutOf old _ _ = ⊥
 
 -- a zone falls asleep unless it is refused: then it is awake as before

@@ -17,31 +17,34 @@ use linked_zone::Part;
 use mac_base::error::{NO_ERR, OsErr};
 use std::alloc::Global;
 
-/// Writes the structure of the zone that sleeps into its bytes again: they have it then, with the flags that handles
-/// had when the zone fell asleep, and no other byte has changed. paramErr where no zone sleeps, and where the bytes
-/// aren't as many as its limit.
+/// Writes the structure of the zone that sleeps into its bytes again: they have it then, and no other byte has changed.
+/// The flags of a handle are those that its master pointer says where its low three bytes are right, and else those that
+/// it had when the zone fell asleep. The guest's fields of the zone's header stay. paramErr where no zone sleeps, and
+/// where the bytes aren't as many as its limit.
 #[unsafe(no_mangle)]
 pub extern "C" fn mh_repair(alloc: Global, asleep: &mut MhAsleep, memory: &mut MhMemory) -> i16
     ensures { IsRepaired asleep.old.zone.held.session (region_of memory.old.host) result asleep.new.zone.held.session (region_of memory.new.host) }
 {
-    let Some(session) = asleep.take(alloc) else {
+    let Some(mut session) = asleep.take(alloc) else {
         return NO_ZONE;
     };
-    let repaired = repair(&session, memory);
+    let repaired = repair(&mut session, memory);
     asleep.put(session);
     told::done(repaired)
 }
 
 /// Writes the structure of a zone into bytes.
-fn repair(session: &Session, memory: &mut MhMemory) -> Result<(), OsErr>
-    ensures { RepairsIn session.now (region_of memory.old.host) (code_told (Some (done_outcome result))) (region_of memory.new.host) }
+fn repair(session: &mut Session, memory: &mut MhMemory) -> Result<(), OsErr>
+    requires asleep { IsAsleep session.old }
+    ensures repaired { RepairsIn session.old (region_of memory.old.host) (code_told (Some (done_outcome result))) session.new (region_of memory.new.host) }
+    ensures asleep { IsAsleep session.new }
 {
     let region = memory.take().ok_or(OsErr::ParamErr)?;
     if region.len() != session.limit() {
         memory.put(region);
         return Err(OsErr::ParamErr);
     }
-    memory.put(session.settle(region));
+    memory.put(session.repair(region));
     Ok(())
 }
 
@@ -78,15 +81,14 @@ fn check(session: &Session, memory: &mut MhMemory, fault: &mut MhFault) -> i16
     requires asleep { IsAsleep session.now }
     ensures { ChecksIn session.now (region_of memory.old.host) result fault.old fault.new (region_of memory.new.host) }
 {
-    let Some(region) = memory.take() else {
+    let Some(mut region) = memory.take() else {
         return OsErr::ParamErr.code();
     };
     if region.len() != session.limit() {
         memory.put(region);
         return OsErr::ParamErr.code();
     }
-    let zone = session.memory.linked();
-    let found = zone.first_fault(region.bytes(0, region.len()));
+    let found = session.first_fault(&mut region);
     memory.put(region);
     match found {
         Some((offset, part)) => {

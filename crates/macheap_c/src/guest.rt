@@ -6,6 +6,7 @@ ghost use Rattle.linked_zone.specs.Written.{DifferIn};
 ghost use Rattle.mac_base.specs.Outcomes.{done_outcome};
 ghost use Rattle.held_zone.specs.Told.{code_told};
 ghost use Rattle.held_zone.specs.Asleep.{IsAsleep, SleepsOn, all_lendable, awake_in, region_of};
+ghost use Rattle.held_zone.specs.Fields.{managed};
 ghost use Rattle.macheap_c.specs.Guest.{IsMadeAt, IsPutToSleep, IsTold, IsWoken, code_asleep};
 ghost use Rattle.macheap_c.specs.Life.{Ends, large_sizes_of};
 
@@ -196,9 +197,9 @@ fn wake_in(
 ) -> Result<(), NotAwake>
     requires asleep { IsAsleep session.old }
     requires whole { region.lent ≡ [] }
-    requires told { IfSome written (λ ranges. DifferIn session.old.zone region.bytes ranges.now) }
-    ensures awake { IfOk result (λ u. HasStructure session.old.zone region.bytes × IsTrue (all_lendable session.old region.bytes) × (session.new ≡ awake_in region session.old)) }
-    ensures asleep { IfErr result (λ no. SleepsOn no.why session.old region.bytes × (no.region ≡ region) × (session.new ≡ session.old)) }
+    requires told { IfSome written (λ ranges. DifferIn session.old.zone (managed region.bytes) ranges.now) }
+    ensures awake { IfOk result (λ u. HasStructure session.old.zone (managed region.bytes) × IsTrue (all_lendable session.old (managed region.bytes)) × (session.new ≡ awake_in region session.old)) }
+    ensures asleep { IfErr result (λ no. SleepsOn no.why session.old (managed region.bytes) × (no.region ≡ region) × (session.new ≡ session.old)) }
 {
     match written {
         Some(written) => session.wake_written(region, written),

@@ -8,7 +8,7 @@ ghost use Rattle.macheap_c.specs.Image.{ImageShown, ImageTold, size_of, sized};
 use held_zone::session::Session;
 use held_zone::told::{self, NO_ZONE};
 use held_zone::zone::MhZone;
-use mac_base::error::{NO_ERR, OsErr};
+use mac_base::error::OsErr;
 use std::alloc::Global;
 
 /// How many bytes the zone has, from its start to the end of its last block. memLockedErr where a block is lent.
@@ -19,19 +19,22 @@ pub extern "C" fn mh_image_size(alloc: Global, zone: &mut MhZone, size: &mut usi
     let Some(session) = zone.take(alloc) else {
         return NO_ZONE;
     };
-    let code = match session.memory.image() {
-        Ok(image) => {
-            *size = image.len();
-            NO_ERR
-        }
-        Err(code) => code.code(),
-    };
+    let measured = measure_image(&session, size);
     zone.put(session);
-    code
+    told::done(measured)
 }
 
-/// Copies these bytes: the zone's header, and its blocks with their headers, master pointers and contents. paramErr
-/// where C has room for more bytes or fewer, memLockedErr where a block is lent.
+/// How many bytes a zone has. memLockedErr where a block is lent.
+fn measure_image(session: &Session, size: &mut usize) -> Result<(), OsErr>
+    ensures { ImageShown size_of session.now (code_told (Some (done_outcome result))) size.old size.new }
+{
+    let image = session.memory.image()?;
+    *size = image.len();
+    Ok(())
+}
+
+/// Copies these bytes: the zone's header, with the guest's fields, and its blocks with their headers, master pointers
+/// and contents. paramErr where C has room for more bytes or fewer, memLockedErr where a block is lent.
 #[unsafe(no_mangle)]
 pub extern "C" fn mh_image(alloc: Global, zone: &mut MhZone, bytes: &mut [u8]) -> i16
     ensures { ImageTold (sized (length bytes.old)) zone.old.held.session result bytes.old bytes.new zone.new.held.session }
@@ -44,15 +47,16 @@ pub extern "C" fn mh_image(alloc: Global, zone: &mut MhZone, bytes: &mut [u8]) -
     told::done(copied)
 }
 
-/// Copies the bytes of a zone over just as many others. paramErr where there are more or fewer, memLockedErr where a
-/// block is lent.
+/// Copies the bytes of a zone, with the guest's fields, over just as many others. paramErr where there are more or
+/// fewer, memLockedErr where a block is lent.
 fn copy_image(session: &Session, bytes: &mut [u8]) -> Result<(), OsErr>
-    ensures { ImageShown (sized (length bytes.old)) session.now.zone (code_told (Some (done_outcome result))) bytes.old bytes.new }
+    ensures { ImageShown (sized (length bytes.old)) session.now (code_told (Some (done_outcome result))) bytes.old bytes.new }
 {
     let image = session.memory.image()?;
     if image.len() != bytes.len() {
         return Err(OsErr::ParamErr);
     }
     bytes.copy_from_slice(image);
+    session.guest.write(bytes);
     Ok(())
 }

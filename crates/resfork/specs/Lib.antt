@@ -1,2 +1,5 @@
 pub mod Statuses
 pub mod Problems
+pub mod Reading
+pub mod Saving
+pub mod Order

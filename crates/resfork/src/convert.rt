@@ -4,9 +4,13 @@ ghost use Rattle.std.specs.Prelude.{◌≡◌, IfOk, Err, Some, option_map};
 ghost use Rattle.resfork.specs.Problems.{written_file};
 
 use crate::asked_change::Conversion;
-use crate::change::{save_to, say, written_file};
+use crate::change::{say, written_file};
+use crate::host::Host;
 use crate::message::{DONE, Problem};
+use crate::order::{Order, order_of};
+use crate::save::{OUTPUT, Ready, put_two, save_to};
 use crate::{INPUT, fork_found, read, read_other, table_found};
+use file_replace::Identity;
 use fork_answer::Failure;
 use fork_edit::convert::{Loss, NotConverted, Rewritten, Transfer, converted, file_of, holds_data};
 use fork_list::byte_of;
@@ -16,6 +20,7 @@ use mac_files::container::{Container, Version};
 use mac_files::container_of;
 use mac_write::Target as Kind;
 use mac_write::mac_file::MacFile;
+use path_text::FileName;
 use std::alloc::{AllocError, Global};
 
 /// Where the data fork of a file is.
@@ -84,57 +89,95 @@ fn lost_words(alloc: Global, lost: &[Loss]) -> Result<String, AllocError> {
 }
 
 /// Checks that bytes in no container that is known for sure are a resource fork.
-fn check_fork(rt: &HostRuntime, bytes: &[u8]) -> Result<(), Problem> {
+fn check_fork(host: &Host<'_>, bytes: &[u8]) -> Result<(), Problem> {
     let is_sure = match container_of(bytes) {
         Some(Container::MacBinary(Version::I)) => false,
         Some(_) => true,
         None => is_bin_hex(bytes),
     };
     if !is_sure {
-        let found = fork_found(rt, bytes)?;
-        table_found(rt, &found, bytes)?;
+        let found = fork_found(host, bytes)?;
+        table_found(host, &found, bytes)?;
     }
     Ok(())
 }
 
 /// The data fork of the new file, which `--data` names where it is in a file of its own.
 fn data_for(
-    rt: &HostRuntime,
+    host: &Host<'_>,
     asked: &Conversion<'_>,
     bytes: &[u8],
     file: &MacFile,
 ) -> Result<Vec<u8>, Problem> {
     let is_read = place_of(bytes) != Place::Inside && holds_data(asked.kind);
     match asked.data {
-        Some(path) if is_read && file.data_fork.is_empty() => read_other(rt, path),
+        Some(path) if is_read && file.data_fork.is_empty() => read_other(host, path),
         Some(_) if holds_data(asked.kind) || place_of(bytes) != Place::Inside => Err(
             Problem::NoDataFile,
         ),
         None if !holds_data(asked.kind) && !file.data_fork.is_empty() => Err(Problem::DataLost),
-        _ => Ok(Vec::from_slice(rt.alloc(), file.data_fork)?),
+        _ => Ok(Vec::from_slice(host.alloc(), file.data_fork)?),
     }
 }
 
-/// Writes the new file, and the data fork where it gets a file of its own. The file that is read is replaced last.
-fn write_both(
-    rt: &HostRuntime,
-    asked: &Conversion<'_>,
-    new: &[u8],
-    data: &[u8],
+/// What the path of a file leads to. None of the standard input or output, and of a path that can't be looked up: such
+/// a one can't be opened either.
+fn identity_of(host: &Host<'_>, path: &str) -> Option<Identity> {
+    if path == OUTPUT {
+        return None;
+    }
+    Identity::of_path(host.rt, path).ok()
+}
+
+/// In which order the new file and the data fork's file are put.
+fn order_for(host: &Host<'_>, asked: &Conversion<'_>, path: &str) -> Result<Order, Problem>
+    ensures { path.now ≡ written_file asked.now.target → result ≡ Err Problem.OneFile }
+{
+    let output = written_file(&asked.target);
+    if path == output {
+        return Err(Problem::OneFile);
+    }
+    let input = identity_of(host, asked.target.file);
+    let output = identity_of(host, output);
+    let data = identity_of(host, path);
+    order_of(&input, &output, &data).ok_or(Problem::OneFile)
+}
+
+/// Writes the new file, and the data fork where it gets a file of its own. Both are prepared before either is put, and
+/// the file that is read is replaced last.
+fn write_both<'a>(
+    host: &Host<'a>,
+    asked: &Conversion<'a>,
+    order: Order,
+    new: &'a [u8],
+    data: &'a [u8],
 ) -> Result<(), Problem> {
     let output = written_file(&asked.target);
     match asked.data {
         Some(path) if !holds_data(asked.kind) => {
-            if path == asked.target.file {
-                save_to(rt, output, new)?;
-                save_to(rt, path, data)
-            } else {
-                save_to(rt, path, data)?;
-                save_to(rt, output, new)
+            let output = Ready::new(host, output, new)?;
+            let data = Ready::new(host, path, data)?;
+            match order {
+                Order::OutputFirst => put_two(host, output, data),
+                Order::DataFirst => put_two(host, data, output),
             }
         }
-        _ => save_to(rt, output, new),
+        _ => save_to(host, output, new),
     }
+}
+
+/// Writes the new file and the data fork, unless the command only says what it would do.
+fn write_converted(
+    host: &Host<'_>,
+    asked: &Conversion<'_>,
+    order: Order,
+    new: &[u8],
+    data: &[u8],
+) -> Result<(), Problem> {
+    if asked.target.is_dry {
+        return Ok(());
+    }
+    write_both(host, asked, order, new, data)
 }
 
 /// The file in its new container.
@@ -148,33 +191,35 @@ fn in_container(alloc: Global, transfer: &Transfer<'_>) -> Result<Rewritten, Pro
 }
 
 /// Writes a file in another container. The result is the exit status.
-pub fn convert(rt: &HostRuntime, asked: &Conversion<'_>) -> Result<u8, Problem>
+pub fn convert(host: &Host<'_>, asked: &Conversion<'_>) -> Result<u8, Problem>
     ensures done { IfOk result (λ status. status ≡ DONE) }
     ensures one_file { option_map (λ path. path.now) asked.now.data ≡ Some (written_file asked.now.target) → result ≡ Err Problem.OneFile }
 {
-    if asked.data == Some(written_file(&asked.target)) {
-        return Err(Problem::OneFile);
-    }
-    let bytes = read(rt, asked.target.file)?;
-    check_fork(rt, &bytes)?;
-    let alloc = rt.alloc();
+    let order = match asked.data {
+        Some(path) => order_for(host, asked, path)?,
+        None => Order::DataFirst,
+    };
+    let bytes = read(host, asked.target.file)?;
+    check_fork(host, &bytes)?;
+    let alloc = host.alloc();
     let source = file_of(alloc, &bytes).map_err(|fault| {
         Refusal::of_failure(alloc, Failure::NoFork(fault), &bytes)
     })?;
-    convert_file(rt, asked, &bytes, source.file())
+    convert_file(host, asked, order, &bytes, source.file())
 }
 
 /// Writes a file that was found in these bytes in another container.
 fn convert_file(
-    rt: &HostRuntime,
+    host: &Host<'_>,
     asked: &Conversion<'_>,
+    order: Order,
     bytes: &[u8],
     file: MacFile<'_>,
 ) -> Result<u8, Problem>
     ensures { IfOk result (λ status. status ≡ DONE) }
 {
-    let data = data_for(rt, asked, bytes, &file)?;
-    let name = name_for(rt.alloc(), asked, &file)?;
+    let data = data_for(host, asked, bytes, &file)?;
+    let name = name_for(host.alloc(), asked, &file)?;
     let transfer = Transfer {
         bytes,
         file,
@@ -184,28 +229,21 @@ fn convert_file(
         target: asked.kind,
         is_lossy: asked.is_lossy,
     };
-    let new = in_container(rt.alloc(), &transfer)?;
-    write_converted(rt, asked, &new, &data)
+    let new = in_container(host.alloc(), &transfer)?;
+    write_converted(host, asked, order, &new.file, &data)?;
+    say_converted(host, asked, &new)
 }
 
-/// Writes a file that is in its new container, and reports what of it is lost.
-fn write_converted(
-    rt: &HostRuntime,
-    asked: &Conversion<'_>,
-    new: &Rewritten,
-    data: &[u8],
-) -> Result<u8, Problem>
+/// Says what was written, and what of the file is lost.
+fn say_converted(host: &Host<'_>, asked: &Conversion<'_>, new: &Rewritten) -> Result<u8, Problem>
     ensures { IfOk result (λ status. status ≡ DONE) }
 {
-    let words = lost_words(rt.alloc(), &new.lost)?;
-    if !asked.target.is_dry {
-        write_both(rt, asked, &new.file, data)?;
-    }
-    let output = written_file(&asked.target);
+    let output = FileName(written_file(&asked.target));
     if !new.lost.is_empty() {
-        let input = asked.target.file;
-        let _ = eprintln!(rt; "{input}: not in {output}: {words}");
+        let words = lost_words(host.alloc(), &new.lost)?;
+        let input = FileName(asked.target.file);
+        let _ = eprintln!(host.rt; "{input}: not in {output}: {words}");
     }
-    let said = format!(in rt.alloc(); "{output}: {length} bytes\n", length = new.file.len())?;
-    say(rt, &asked.target, &said)
+    let said = format!(in host.alloc(); "{output}: {length} bytes\n", length = new.file.len())?;
+    say(host, &asked.target, &said)
 }

@@ -1,12 +1,36 @@
 //! The bytes of a file.
 
-ghost use Rattle.std.specs.Prelude.{◌≡◌, ◌≢◌, IfErr, IfOk, IfSome};
+ghost use Rattle.std.specs.Prelude.{◌≡◌, ◌≢◌, ◌<◌, ◌≤◌, ◌^◌, Err, IfErr, IfOk, IfSome, length};
 ghost use Rattle.std.specs.IoError.{error_kind};
+ghost use Rattle.resfork.specs.Reading.{IsNotRead};
 
 use std::alloc::Global;
 use std::fs::File;
 use std::io;
 use std::io::{ErrorKind, Read};
+use thiserror::Error;
+
+/// Why the bytes of a file aren't read.
+#[derive(Debug, Drop, Error)]
+pub enum NotRead {
+    /// The file fails, or the host has no memory.
+    #[error("can't be read: {0}")]
+    Failed(io::Error),
+    /// There are more than these.
+    #[error("is longer than the limit of {0} bytes; --limit SIZE reads more")]
+    TooLong(u64),
+}
+
+impl From<io::Error> for NotRead {
+    ghost use Rattle.std.specs.Prelude.{◌≡◌};
+    ghost use Rattle.resfork.specs.declared.input.NotRead.TheVariants as not_read;
+
+    ghost from_gives = { λ error why. why ≡ not_read.Failed error };
+
+    fn from(error: io::Error) -> NotRead {
+        NotRead::Failed(error)
+    }
+}
 
 /// All bytes that the reader gives. There is room for so many at first: where they are no more, none of them is moved.
 pub fn read_all<R: Read + Drop>(
@@ -22,8 +46,30 @@ pub fn read_all<R: Read + Drop>(
     Ok(bytes)
 }
 
-/// All bytes of a file, into room for as many as it has and one more, for the read that finds the end.
-pub fn read_file(alloc: Global, file: &File) -> io::Result<Vec<u8>> {
-    let expected = (file.metadata()?.len() as usize).saturating_add(1);
-    read_all(alloc, file, expected)
+/// All bytes that the reader gives, if they are no more than these; of more, one is read that shows it.
+pub fn read_within<R: Read + Drop>(
+    alloc: Global,
+    reader: R,
+    expected: usize,
+    most: u64,
+) -> Result<Vec<u8>, NotRead>
+    ensures all { IfOk result (λ bytes. IfSome (R.remaining reader) (λ all. (bytes.items ≡ all) × (length all ≤ most))) }
+    ensures refused { IfErr result (IsNotRead (R.remaining reader) most) }
+{
+    let bytes = read_all(alloc, reader.take(most.saturating_add(1)), expected)?;
+    if bytes.len() as u64 > most {
+        return Err(NotRead::TooLong(most));
+    }
+    Ok(bytes)
+}
+
+/// All bytes of a file, if they are no more than these, into room for as many as it has and one more, for the read that
+/// finds the end.
+pub fn read_file(alloc: Global, file: &File, most: u64) -> Result<Vec<u8>, NotRead> {
+    let found = file.metadata()?;
+    if found.is_file() && found.len() > most {
+        return Err(NotRead::TooLong(most));
+    }
+    let expected = (found.len() as usize).saturating_add(1);
+    read_within(alloc, file, expected, most)
 }

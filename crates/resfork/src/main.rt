@@ -6,30 +6,36 @@ ghost use Rattle.resfork.specs.Statuses.{status_after};
 
 mod change;
 mod convert;
+mod host;
 mod input;
 mod message;
+mod order;
+mod output;
 mod parts;
 mod rez;
+mod save;
 mod work;
 
-use change::save_to;
-use file_replace::{NotReplaced, settle};
 use fork_answer::answer::answer;
 use fork_answer::request::Request;
 use fork_answer::{Failure, Found, read_table, resource_fork};
 use fork_bytes::table::Table;
 use fork_disk::{Record, Unknown};
-use fork_journal::UnknownPair;
 use fork_report::{
-    Bytes, Form, Refusal, Report, Tally, Told, refused_line, report_on, salvage, salvage_list,
+    Bytes, Form, Refusal, Report, Told, refused_line, report_on, salvage, salvage_list,
 };
 use fork_view::unpack::unpack;
 use fork_view::{Sight, Unpacking, sight_of};
-use fork_words::asked::{Asked, NotAsked, Reporting, Salvaging, Showing, Viewing, asked_by};
+use fork_words::asked::{
+    Asked, Command, NotAsked, Reporting, Salvaging, Showing, Viewing, asked_by,
+};
 use fork_words::{INPUT, work as asked_change};
-use input::{read_all, read_file};
+use host::Host;
+use input::{NotRead, read_file, read_within};
 use message::{BAD_WORDS, CANT_GO_ON, DONE, NO_FORK, Problem, tell_bad_words, tell_problem};
 use parts::{answer_by_parts, list_by_parts};
+use path_text::FileName;
+use save::save_to;
 use std::alloc::AllocError;
 use std::io::{ErrorKind, IsTerminal, Write};
 use std::process::ExitCode;
@@ -51,84 +57,89 @@ fn run(rt: &HostRuntime) -> u8
         return tell_bad_words(rt, &NotAsked::HostFull);
     };
     match asked_by(rt.alloc(), words.as_slice()) {
-        Ok(asked) => done(rt, asked),
+        Ok(Command { asked, limit }) => done(&Host { rt, limit }, asked),
         Err(error) => tell_bad_words(rt, &error),
     }
 }
 
 /// Does what is asked for. The result is the exit status.
-fn done(rt: &HostRuntime, asked: Asked<'_>) -> u8
+fn done(host: &Host<'_>, asked: Asked<'_>) -> u8
     ensures { result ≤ CANT_GO_ON }
 {
     match asked {
-        Asked::Show(asked) => show_all(rt, &asked),
-        Asked::Report(asked) => report_all(rt, &asked),
-        Asked::Salvage(asked) => finish(rt, asked.file, salvage_file(rt, asked)),
-        Asked::View(asked) => finish(rt, asked.file, use_table(rt, asked.file, &asked)),
-        Asked::Unpack { unpacking, file } => finish(rt, file, use_table(rt, file, &unpacking)),
-        Asked::Change(work) => work::work(rt, work),
-        Asked::Tell(text) => tell(rt, text),
+        Asked::Show(asked) => show_all(host, &asked),
+        Asked::Report(asked) => report_all(host, &asked),
+        Asked::Salvage(asked) => finish(host, asked.file, salvage_file(host, asked)),
+        Asked::View(asked) => finish(host, asked.file, use_table(host, asked.file, &asked)),
+        Asked::Unpack { unpacking, file } => finish(host, file, use_table(host, file, &unpacking)),
+        Asked::Change(work) => work::work(host, work),
+        Asked::Tell(text) => tell(host, text),
     }
 }
 
-/// Writes the name of one of several files before what is shown of it. The result says whether that can be shown then.
-fn is_titled(rt: &HostRuntime, files: &[&str], file: &str) -> bool {
-    files.len() <= 1 || println!(rt; "{file}:").is_ok()
+/// Writes the name of one of several files before what is shown of it.
+fn write_title(host: &Host<'_>, files: &[&str], file: &str) -> Result<(), Problem> {
+    if files.len() <= 1 {
+        return Ok(());
+    }
+    let file = FileName(file);
+    let title = format!(in host.alloc(); "{file}:\n")?;
+    write_text(host, &title)
 }
 
 /// Shows something of each of these files, and says why some aren't shown. The result is the highest status of them.
-fn show_all(rt: &HostRuntime, asked: &Showing<'_>) -> u8
+fn show_all(host: &Host<'_>, asked: &Showing<'_>) -> u8
     ensures { result ≤ CANT_GO_ON }
 {
     let files = asked.files.as_slice();
     let mut status = DONE;
     for file in files {
-        if !is_titled(rt, files, file) {
-            return CANT_GO_ON;
+        if let Err(problem) = write_title(host, files, file) {
+            return finish(host, file, Err(problem));
         }
-        status = status.max(finish(rt, file, show(rt, asked, file)));
+        status = status.max(finish(host, file, show(host, asked, file)));
     }
     status
 }
 
 /// Shows something of the file of this name, on the standard output or in a file.
-fn show(rt: &HostRuntime, asked: &Showing<'_>, file: &str) -> Result<u8, Problem>
+fn show(host: &Host<'_>, asked: &Showing<'_>, file: &str) -> Result<u8, Problem>
     ensures { IfOk result (λ status. status ≡ DONE) }
 {
     match asked.output {
-        Some(output) => save_answer(rt, &asked.request, file, output)?,
-        None if asked.request.is_for_files() && rt.stdout().is_terminal() => {
+        Some(output) => save_answer(host, &asked.request, file, output)?,
+        None if asked.request.is_for_files() && host.rt.stdout().is_terminal() => {
             return Err(Problem::Terminal);
         }
-        None => write_answer(rt, &asked.request, file, &mut rt.stdout())?,
+        None => write_answer(host, &asked.request, file, &mut host.output())?,
     }
     Ok(DONE)
 }
 
 /// Writes what is asked for of the file of this name to another.
 fn save_answer(
-    rt: &HostRuntime,
+    host: &Host<'_>,
     request: &Request,
     file: &str,
     output: &str,
 ) -> Result<(), Problem> {
-    let mut text = Vec::new(rt.alloc());
-    write_answer(rt, request, file, &mut text)?;
-    save_to(rt, output, text.as_slice())
+    let mut text = Vec::new(host.alloc());
+    write_answer(host, request, file, &mut text)?;
+    save_to(host, output, text.as_slice())
 }
 
 /// Writes what is asked for of the file of this name.
 fn write_answer<W: Write>(
-    rt: &HostRuntime,
+    host: &Host<'_>,
     request: &Request,
     file: &str,
     output: &mut W,
 ) -> Result<(), Problem> {
-    if let Some(shown) = answer_by_parts::<Unknown, W>(rt, request, file, output) {
+    if let Some(shown) = answer_by_parts::<Unknown, W>(host, request, file, output) {
         return shown.map_err(|failure| Problem::Refused(Refusal::Show(failure)));
     }
-    let alloc = rt.alloc();
-    let bytes = read(rt, file)?;
+    let alloc = host.alloc();
+    let bytes = read(host, file)?;
     answer(alloc, request, &bytes, output).map_err(|failure| Refusal::of_failure(
         alloc, failure, &bytes,
     ))?;
@@ -136,58 +147,58 @@ fn write_answer<W: Write>(
 }
 
 /// Reports on each of these files, and says why of some nothing is reported. The result is the highest status of them.
-fn report_all(rt: &HostRuntime, asked: &Reporting<'_>) -> u8
+fn report_all(host: &Host<'_>, asked: &Reporting<'_>) -> u8
     ensures { result ≤ CANT_GO_ON }
 {
     let files = asked.files.as_slice();
     let is_text = matches!(asked.report.form(), Form::Text);
     let mut status = DONE;
     for file in files {
-        if is_text && !is_titled(rt, files, file) {
-            return CANT_GO_ON;
+        if is_text && let Err(problem) = write_title(host, files, file) {
+            return finish(host, file, Err(problem));
         }
-        status = status.max(finish(rt, file, report_one(rt, &asked.report, file)));
+        status = status.max(finish(host, file, report_one(host, &asked.report, file)));
     }
     status
 }
 
 /// Reports on the file of this name. The result is its status, or why nothing is reported.
-fn report_one(rt: &HostRuntime, report: &Report, file: &str) -> Result<u8, Problem>
+fn report_one(host: &Host<'_>, report: &Report, file: &str) -> Result<u8, Problem>
     ensures { IfOk result (λ status. status ≤ NO_FORK) }
 {
-    match report_file(rt, report, file) {
-        Ok(told) => print_told(rt, &told),
-        Err(problem) if matches!(report.form(), Form::Json) => Err(refused(rt, file, problem)),
+    match report_file(host, report, file) {
+        Ok(told) => print_told(host, &told),
+        Err(problem) if matches!(report.form(), Form::Json) => Err(refused(host, file, problem)),
         Err(problem) => Err(problem),
     }
 }
 
 /// What is reported of the file of this name.
-fn report_file(rt: &HostRuntime, report: &Report, file: &str) -> Result<Told, Problem> {
+fn report_file(host: &Host<'_>, report: &Report, file: &str) -> Result<Told, Problem> {
     if let Report::List {
         kinds,
         shown: Bytes::Hidden,
     } = report
-        && let Some(line) = list_by_parts::<Unknown>(rt, file, kinds.as_slice())
+        && let Some(line) = list_by_parts::<Unknown>(host, file, kinds.as_slice())
     {
         return Ok(Told::whole(line?));
     }
-    let bytes = read(rt, file)?;
-    Ok(report_on(rt.alloc(), report, file, &bytes)?)
+    let bytes = read(host, file)?;
+    Ok(report_on(host.alloc(), report, file, &bytes)?)
 }
 
 /// Writes what is reported of a file. The result is its status.
-fn print_told(rt: &HostRuntime, told: &Told) -> Result<u8, Problem>
+fn print_told(host: &Host<'_>, told: &Told) -> Result<u8, Problem>
     ensures { IfOk result (λ status. status ≡ (if told.now.is_damaged then NO_FORK else DONE)) }
 {
-    write_text(rt, &told.text)?;
+    write_text(host, &told.text)?;
     Ok(if told.is_damaged { NO_FORK } else { DONE })
 }
 
 /// Writes as JSON why nothing is reported of a file, which is what is in the way then, unless the line isn't written.
-fn refused(rt: &HostRuntime, file: &str, problem: Problem) -> Problem {
-    if let Ok(line) = refusal_line(rt, file, &problem)
-        && let Err(unprinted) = write_text(rt, &line)
+fn refused(host: &Host<'_>, file: &str, problem: Problem) -> Problem {
+    if let Ok(line) = refusal_line(host, file, &problem)
+        && let Err(unprinted) = write_text(host, &line)
     {
         drop(problem);
         return unprinted;
@@ -196,27 +207,27 @@ fn refused(rt: &HostRuntime, file: &str, problem: Problem) -> Problem {
 }
 
 /// The line of JSON for a file that isn't shown.
-fn refusal_line(rt: &HostRuntime, file: &str, problem: &Problem) -> Result<String, AllocError> {
-    let told = format!(in rt.alloc(); "{problem}")?;
-    refused_line(rt.alloc(), file, problem.status(), told.as_str())
+fn refusal_line(host: &Host<'_>, file: &str, problem: &Problem) -> Result<String, AllocError> {
+    let told = format!(in host.alloc(); "{problem}")?;
+    refused_line(host.alloc(), file, problem.status(), told.as_str())
 }
 
 /// Writes a text in one piece.
-fn write_text(rt: &HostRuntime, text: &String) -> Result<(), Problem> {
-    rt.stdout()
+fn write_text(host: &Host<'_>, text: &String) -> Result<(), Problem> {
+    host.output()
         .write_all(text.as_bytes())
         .map_err(Problem::Print)
 }
 
 /// The status of what was done with a file. A problem is reported.
-fn finish(rt: &HostRuntime, file: &str, done: Result<u8, Problem>) -> u8
+fn finish(host: &Host<'_>, file: &str, done: Result<u8, Problem>) -> u8
     ensures status { result ≡ status_after done }
     ensures few { IfOk done (λ status. status ≤ CANT_GO_ON) → result ≤ CANT_GO_ON }
 {
     match done {
         Ok(status) => status,
         Err(problem) => {
-            tell_problem(rt, file, &problem);
+            tell_problem(host, file, &problem);
             let status = problem.status();
             drop(problem);
             status
@@ -225,32 +236,32 @@ fn finish(rt: &HostRuntime, file: &str, done: Result<u8, Problem>) -> u8
 }
 
 /// Lists what can be read of a file, or writes it to another. The result is the exit status.
-fn salvage_file(rt: &HostRuntime, asked: Salvaging<'_>) -> Result<u8, Problem>
+fn salvage_file(host: &Host<'_>, asked: Salvaging<'_>) -> Result<u8, Problem>
     ensures { IfOk result (λ status. status ≡ DONE) }
 {
-    let bytes = read(rt, asked.file)?;
+    let bytes = read(host, asked.file)?;
     match asked.output {
-        Some(output) => save_salvaged(rt, asked.file, &bytes, output)?,
-        None => write_text(rt, &salvage_list(rt.alloc(), asked.letters, &bytes)?)?,
+        Some(output) => save_salvaged(host, asked.file, &bytes, output)?,
+        None => write_text(host, &salvage_list(host.alloc(), asked.letters, &bytes)?)?,
     }
     Ok(DONE)
 }
 
 /// Writes what can be read of a file with these bytes to another.
-fn save_salvaged(rt: &HostRuntime, file: &str, bytes: &[u8], output: &str) -> Result<(), Problem> {
-    let (fork, tally) = salvage(rt.alloc(), bytes)?;
-    save_to(rt, output, fork.as_slice())?;
-    if let Some(Tally { readable, found }) = tally {
-        let _ = eprintln!(rt;
-            "{file}: {readable} of {found} resources can be read, and are written to {output}"
-        );
+fn save_salvaged(host: &Host<'_>, file: &str, bytes: &[u8], output: &str) -> Result<(), Problem> {
+    let (fork, tally) = salvage(host.alloc(), bytes)?;
+    save_to(host, output, fork.as_slice())?;
+    if let Some(tally) = tally {
+        let file = FileName(file);
+        let output = FileName(output);
+        let _ = eprintln!(host.rt; "{file}: {tally} can be read, and are written to {output}");
     }
     Ok(())
 }
 
 /// The resource fork in a file.
-fn fork_found<'a>(rt: &HostRuntime, bytes: &'a [u8]) -> Result<Found<'a>, Problem> {
-    let alloc = rt.alloc();
+fn fork_found<'a>(host: &Host<'_>, bytes: &'a [u8]) -> Result<Found<'a>, Problem> {
+    let alloc = host.alloc();
     Ok(resource_fork(alloc, bytes).map_err(|fault| Refusal::of_failure(
         alloc,
         Failure::NoFork(fault),
@@ -260,11 +271,11 @@ fn fork_found<'a>(rt: &HostRuntime, bytes: &'a [u8]) -> Result<Found<'a>, Proble
 
 /// The table of the resource fork that was found in a file.
 fn table_found<'a>(
-    rt: &HostRuntime,
+    host: &Host<'_>,
     found: &'a Found<'_>,
     bytes: &[u8],
 ) -> Result<Table<'a>, Problem> {
-    let alloc = rt.alloc();
+    let alloc = host.alloc();
     Ok(read_table(alloc, found.fork()).map_err(|fault| Refusal::of_failure(
         alloc,
         Failure::Fork(fault),
@@ -275,98 +286,97 @@ fn table_found<'a>(
 /// Something that is done with the table of a file's resource fork.
 pub trait TableUse {
     /// Does it. The result is the exit status.
-    fn done(&self, rt: &HostRuntime, bytes: &[u8], table: &Table<'_>) -> Result<u8, Problem>
+    fn done(&self, host: &Host<'_>, bytes: &[u8], table: &Table<'_>) -> Result<u8, Problem>
         ensures { IfOk result (λ status. status ≡ DONE) };
 }
 
 /// Does something with the table of the file of this name.
-pub fn use_table<U: TableUse>(rt: &HostRuntime, file: &str, table_use: &U) -> Result<u8, Problem>
+pub fn use_table<U: TableUse>(host: &Host<'_>, file: &str, table_use: &U) -> Result<u8, Problem>
     ensures { IfOk result (λ status. status ≡ DONE) }
 {
-    let bytes = read(rt, file)?;
-    use_table_in(rt, &bytes, table_use)
+    let bytes = read(host, file)?;
+    use_table_in(host, &bytes, table_use)
 }
 
 /// Does something with the table of the resource fork in these bytes.
-fn use_table_in<U: TableUse>(rt: &HostRuntime, bytes: &[u8], table_use: &U) -> Result<u8, Problem>
+fn use_table_in<U: TableUse>(host: &Host<'_>, bytes: &[u8], table_use: &U) -> Result<u8, Problem>
     ensures { IfOk result (λ status. status ≡ DONE) }
 {
-    let found = fork_found(rt, bytes)?;
-    let table = table_found(rt, &found, bytes)?;
-    table_use.done(rt, bytes, &table)
+    let found = fork_found(host, bytes)?;
+    let table = table_found(host, &found, bytes)?;
+    table_use.done(host, bytes, &table)
 }
 
 impl TableUse for Viewing<'_> {
     /// The resources are shown to people.
-    fn done(&self, rt: &HostRuntime, _bytes: &[u8], table: &Table<'_>) -> Result<u8, Problem> {
-        let sight = sight_of(rt.alloc(), &self.view, table.rows.as_slice()).map_err(Problem::View)?;
-        write_sight(rt, &sight, self.output)?;
+    fn done(&self, host: &Host<'_>, _bytes: &[u8], table: &Table<'_>) -> Result<u8, Problem> {
+        let sight = sight_of(host.alloc(), &self.view, table.rows.as_slice()).map_err(
+            Problem::View,
+        )?;
+        write_sight(host, &sight, self.output)?;
         Ok(DONE)
     }
 }
 
 /// Writes what is shown, to the file of this name or to the standard output. A picture isn't written to a terminal.
-fn write_sight(rt: &HostRuntime, sight: &Sight, output: Option<&str>) -> Result<(), Problem> {
+fn write_sight(host: &Host<'_>, sight: &Sight, output: Option<&str>) -> Result<(), Problem> {
     match output {
-        Some(output) => save_to(rt, output, sight.bytes.as_slice()),
-        None if sight.is_picture && rt.stdout().is_terminal() => Err(Problem::Terminal),
-        None => rt.stdout().write_all(&sight.bytes).map_err(Problem::Print),
+        Some(output) => save_to(host, output, sight.bytes.as_slice()),
+        None if sight.is_picture && host.rt.stdout().is_terminal() => Err(Problem::Terminal),
+        None => host
+            .output()
+            .write_all(&sight.bytes)
+            .map_err(Problem::Print),
     }
 }
 
 impl TableUse for Unpacking<'_> {
     /// The resources are written to a folder.
-    fn done(&self, rt: &HostRuntime, bytes: &[u8], table: &Table<'_>) -> Result<u8, Problem> {
-        unpack(rt, self, bytes, table).map_err(Problem::Unpack)?;
+    fn done(&self, host: &Host<'_>, bytes: &[u8], table: &Table<'_>) -> Result<u8, Problem> {
+        unpack(host.rt, self, bytes, table, &mut Record::new()).map_err(Problem::Unpack)?;
         Ok(DONE)
     }
 }
 
-/// The bytes of the file of this name, or of the standard input. A change of it that was cut short is finished or
-/// undone first.
-fn read(rt: &HostRuntime, file: &str) -> Result<Vec<u8>, Problem> {
-    if file != INPUT {
-        settled(rt, file)?;
-    }
-    read_whole(rt, file).map_err(Problem::Read)
+/// The bytes of the file of this name, or of the standard input.
+fn read(host: &Host<'_>, file: &str) -> Result<Vec<u8>, Problem> {
+    read_whole(host, file).map_err(Problem::Read)
 }
 
-/// Finishes or undoes a change of the file of this name that was cut short.
-fn settled(rt: &HostRuntime, file: &str) -> Result<(), Problem> {
-    match settle::<UnknownPair>(rt, file, &mut Record::new()) {
-        Ok(()) => Ok(()),
-        Err(NotReplaced::Open(error)) => Err(Problem::Read(error)),
-        Err(refusal) => Err(Problem::Replace(refusal)),
-    }
-}
-
-/// The bytes of the file of this name, or of the standard input, as they are.
-fn read_whole(rt: &HostRuntime, file: &str) -> io::Result<Vec<u8>> {
+/// The bytes of the file of this name, or of the standard input, if they aren't too many.
+fn read_whole(host: &Host<'_>, file: &str) -> Result<Vec<u8>, NotRead> {
     if file == INPUT {
-        return read_all(rt.alloc(), rt.stdin(), 0);
+        return read_within(host.alloc(), host.rt.stdin(), 0, host.limit);
     }
-    read_file(rt.alloc(), &fs::open(rt, file)?)
+    read_file(host.alloc(), &fs::open(host.rt, file)?, host.limit)
 }
 
-/// The bytes of a file that belongs to another, as they are.
-fn read_other(rt: &HostRuntime, path: &str) -> Result<Vec<u8>, Problem> {
-    match read_whole(rt, path) {
+/// That a file which belongs to another isn't read.
+fn unread<T>(host: &Host<'_>, path: &str, error: NotRead) -> Result<T, Problem> {
+    let path = FileName(path);
+    let path = format!(in host.alloc(); "{path}")?;
+    Err(Problem::Unread { path, error })
+}
+
+/// The bytes of a file that belongs to another.
+fn read_other(host: &Host<'_>, path: &str) -> Result<Vec<u8>, Problem> {
+    match read_whole(host, path) {
         Ok(bytes) => Ok(bytes),
-        Err(error) => Err(Problem::Unread {
-            path: String::from_str(rt.alloc(), path)?,
-            error,
-        }),
+        Err(error) => unread(host, path, error),
     }
 }
 
 /// Writes the help or the version. The result is the exit status.
-fn tell(rt: &HostRuntime, text: clap::Error) -> u8
+fn tell(host: &Host<'_>, text: clap::Error) -> u8
     ensures { result ≤ CANT_GO_ON }
 {
-    match print!(rt; "{text}") {
-        Ok(()) => DONE,
-        Err(_) => CANT_GO_ON,
+    let Err(error) = write!(host.output(), "{text}") else {
+        return DONE;
+    };
+    if error.kind() != ErrorKind::BrokenPipe {
+        let _ = eprintln!(host.rt; "error: the output can't be written: {error}");
     }
+    CANT_GO_ON
 }
 
 /// Says that the words can't be read: they are no text, or the host has no memory for them. The result is the exit

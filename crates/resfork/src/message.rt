@@ -1,9 +1,11 @@
 //! What is printed on the standard error, and the exit statuses.
 
-ghost use Rattle.std.specs.Prelude.{◌≡◌};
-ghost use Rattle.resfork.specs.Problems.{IsToldOfChange, after_change};
+ghost use Rattle.std.specs.Prelude.{◌≡◌, Some};
+ghost use Rattle.resfork.specs.Problems.{IsToldOfChange, after_change, operand};
 ghost use Rattle.resfork.specs.Statuses.{status_of, status_of_words};
 
+use crate::host::Host;
+use crate::input::NotRead;
 use file_replace::NotReplaced;
 use fork_answer::Failure;
 use fork_change::row::ResourceId;
@@ -15,13 +17,15 @@ use fork_list::letters::Letters;
 use fork_report::Refusal;
 use fork_rez::fault::RezFault;
 use fork_view::{NotShown, NotUnpacked};
+use fork_words::INPUT;
 use fork_words::asked::NotAsked;
 use mac_base::error::HostFull;
 use mac_base::resource::ResType;
 use mac_files::archive::Archive;
+use path_text::{FileName, Lines, ShellWord};
 use std::alloc::{AllocError, Global};
-use std::io;
 use std::io::ErrorKind;
+use std::{fmt, io};
 use thiserror::Error;
 
 /// The exit status where all was done.
@@ -43,8 +47,8 @@ pub const CANT_GO_ON: u8 = 4;
 #[derive(Debug, Drop, Error)]
 pub enum Problem {
     /// The file can't be read.
-    #[error("can't be read: {0}")]
-    Read(io::Error),
+    #[error("{0}")]
+    Read(NotRead),
     /// What it holds can't be shown.
     #[error("{0}")]
     Refused(#[from] Refusal),
@@ -81,9 +85,9 @@ pub enum Problem {
     /// A file with these resources isn't written.
     #[error("not written: {0}")]
     Write(NotWritten),
-    /// A file that belongs to it can't be read.
-    #[error("{path} can't be read: {error}")]
-    Unread { path: String, error: io::Error },
+    /// The file of this path, as it is shown, which belongs to it, isn't read.
+    #[error("{path} {error}")]
+    Unread { path: String, error: NotRead },
     /// A text says no resources.
     #[error("{0}")]
     Rez(RezFault),
@@ -93,7 +97,7 @@ pub enum Problem {
     /// A resource is apart from one before it of its type.
     #[error("{0} is apart from the other resources of its type: put those of one type together")]
     Apart(String),
-    /// A file of a folder is no text.
+    /// A file of a folder, whose path is shown so, is no text.
     #[error("{0} is no UTF-8 text")]
     NoText(String),
     /// A container can't hold these things of the file.
@@ -123,7 +127,7 @@ pub enum Problem {
 }
 
 impl From<AllocError> for Problem {
-    ghost use Rattle.std.specs.Prelude.{◌≡◌};
+    ghost use Rattle.std.specs.Prelude.{◌≡◌, Some};
     ghost use Rattle.resfork.specs.declared.message.Problem.TheVariants as problem;
 
     ghost from_gives = { λ _ why. why ≡ problem.HostFull };
@@ -213,52 +217,93 @@ impl Problem {
 }
 
 /// Says why the file of this name isn't shown, or not all of it.
-pub fn tell_problem(rt: &HostRuntime, file: &str, problem: &Problem) {
+pub fn tell_problem(host: &Host<'_>, file: &str, problem: &Problem) {
     if problem.is_silent() {
         return;
     }
     let _ = match problem {
-        Problem::Refused(Refusal::Archive(archive)) => tell_archive(rt, file, *archive),
+        Problem::Refused(Refusal::Archive(archive)) => tell_archive(host, file, *archive),
         Problem::Refused(
             Refusal::Damaged {
                 told,
                 is_readable: true,
             },
-        ) => eprintln!(rt; "{file}: {told}: resfork salvage {file} -o OUT"),
-        Problem::Edit(fork_change::Refusal::Missing(what)) => tell_missing(rt, file, *what),
-        Problem::NoKind(kind) => tell_no_kind(rt, file, *kind),
-        Problem::Output { path, .. } => tell_words(rt, path.as_str(), problem),
-        Problem::Container(path) => tell_words(rt, path.as_str(), problem),
-        problem => tell_words(rt, file, problem),
+        ) => tell_damaged(host, file, told),
+        Problem::Edit(fork_change::Refusal::Missing(what)) => tell_missing(host, file, *what),
+        Problem::NoKind(kind) => tell_no_kind(host, file, *kind),
+        Problem::Output { path, .. } => tell_words(host, path.as_str(), problem),
+        Problem::Container(path) => tell_words(host, path.as_str(), problem),
+        problem => tell_words(host, file, problem),
     };
 }
 
-/// Reports a problem of the file of this name in its own words.
-fn tell_words(rt: &HostRuntime, file: &str, problem: &Problem) -> io::Result<()> {
-    eprintln!(rt; "{file}: {problem}")
+/// A file as a word of a command that can be typed.
+#[derive(Clone, Copy)]
+struct Operand<'a>(&'a str);
+
+impl fmt::Display for Operand<'_> {
+    ghost output = { λ o. Some (operand o.0.now) };
+
+    fn fmt<W: fmt::Write>(&self, f: &mut fmt::Formatter<W>) -> fmt::Result {
+        if self.0 == INPUT {
+            return write!(f, "-");
+        }
+        let word = ShellWord(self.0);
+        write!(f, "{word}")
+    }
+}
+
+/// Says that the fork of the file of this name is damaged, and how what can be read is had.
+fn tell_damaged(host: &Host<'_>, file: &str, told: &String) -> io::Result<()> {
+    let word = Operand(file);
+    let file = FileName(file);
+    let told = Lines(told.as_str());
+    eprintln!(host.rt; "{file}: {told}: resfork salvage {word} -o OUT")
+}
+
+/// Reports a problem of the file of this name in its own words. They may have in them what others wrote, as a text of
+/// which a part is named.
+fn tell_words(host: &Host<'_>, file: &str, problem: &Problem) -> io::Result<()> {
+    let file = FileName(file);
+    match format!(in host.alloc(); "{problem}") {
+        Ok(told) => {
+            let told = Lines(told.as_str());
+            eprintln!(host.rt; "{file}: {told}")
+        }
+        Err(_) => {
+            let full = Problem::HostFull;
+            eprintln!(host.rt; "{file}: {full}")
+        }
+    }
 }
 
 /// Says that the file of this name has no resource of this type.
-fn tell_no_kind(rt: &HostRuntime, file: &str, kind: ResType) -> io::Result<()> {
+fn tell_no_kind(host: &Host<'_>, file: &str, kind: ResType) -> io::Result<()> {
+    let file = FileName(file);
     let kind = KindText::new(Letters::Roman, kind);
-    eprintln!(rt; "{file}: there is no resource of the type {kind}")
+    eprintln!(host.rt; "{file}: there is no resource of the type {kind}")
 }
 
 /// Says that the file of this name has no resource of this type and id.
-fn tell_missing(rt: &HostRuntime, file: &str, what: ResourceId) -> io::Result<()> {
+fn tell_missing(host: &Host<'_>, file: &str, what: ResourceId) -> io::Result<()> {
+    let file = FileName(file);
     let kind = KindText::new(Letters::Roman, what.kind);
     let id = what.id;
-    eprintln!(rt; "{file}: there is no resource {kind} {id}")
+    eprintln!(host.rt; "{file}: there is no resource {kind} {id}")
 }
 
 /// Says that the file of this name is an archive, and what opens it.
-fn tell_archive(rt: &HostRuntime, file: &str, archive: Archive) -> io::Result<()> {
+fn tell_archive(host: &Host<'_>, file: &str, archive: Archive) -> io::Result<()> {
+    let word = Operand(file);
+    let file = FileName(file);
     let name = archive.name();
     match archive.command().split_once("FILE") {
         Some((before, after)) => {
-            eprintln!(rt; "{file}: a {name}, which resfork doesn't unpack: {before}{file}{after}")
+            eprintln!(host.rt;
+                "{file}: a {name}, which resfork doesn't unpack: {before}{word}{after}"
+            )
         }
-        None => eprintln!(rt; "{file}: a {name}, which resfork doesn't unpack"),
+        None => eprintln!(host.rt; "{file}: a {name}, which resfork doesn't unpack"),
     }
 }
 
@@ -266,7 +311,16 @@ fn tell_archive(rt: &HostRuntime, file: &str, archive: Archive) -> io::Result<()
 pub fn tell_bad_words(rt: &HostRuntime, error: &NotAsked) -> u8
     ensures { result ≡ status_of_words error.now }
 {
-    let _ = eprint!(rt; "{error}");
+    match format!(in rt.alloc(); "{error}") {
+        Ok(told) => {
+            let told = Lines(told.as_str());
+            let _ = eprint!(rt; "{told}");
+        }
+        Err(_) => {
+            let full = NotAsked::HostFull;
+            let _ = eprint!(rt; "{full}");
+        }
+    }
     match error {
         NotAsked::HostFull => CANT_GO_ON,
         _ => BAD_WORDS,

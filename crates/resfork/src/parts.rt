@@ -4,7 +4,8 @@ ghost use Rattle.std.specs.Prelude.{◌≡◌, ◌≢◌, Err, IfErr, IfNone, If
 ghost use Rattle.fork_bytes.specs.declared.fault.ForkFault.{ForkFault};
 ghost use Rattle.fork_answer.specs.Answer.{IsQuiet};
 
-use crate::{INPUT, settled};
+use crate::INPUT;
+use crate::host::Host;
 use fork_answer::request::Request;
 use fork_answer::{Failure, answer_in_parts, rows_in_parts};
 use fork_disk::store::PlainStore;
@@ -16,12 +17,11 @@ use std::fs;
 use std::io::Write;
 
 /// The file of this name, if it can be read in parts.
-fn file_of<W: World>(rt: &HostRuntime, name: &str) -> Option<PlainStore<FileDisk<W>>> {
-    if name == INPUT || !fs::metadata(rt, name).ok()?.is_file() {
+fn file_of<W: World>(host: &Host<'_>, name: &str) -> Option<PlainStore<FileDisk<W>>> {
+    if name == INPUT || !fs::metadata(host.rt, name).ok()?.is_file() {
         return None;
     }
-    settled(rt, name).ok()?;
-    let file = fs::open(rt, name).ok()?;
+    let file = fs::open(host.rt, name).ok()?;
     Some(PlainStore {
         disk: FileDisk::new(HostFile::new(file), 0),
     })
@@ -30,7 +30,7 @@ fn file_of<W: World>(rt: &HostRuntime, name: &str) -> Option<PlainStore<FileDisk
 /// Writes what is asked for of the file of this name. None where it isn't a resource fork and nothing else, where it is
 /// damaged, and where something is in the way: all of it has to be read then.
 pub fn answer_by_parts<W: World, O: Write>(
-    rt: &HostRuntime,
+    host: &Host<'_>,
     request: &Request,
     name: &str,
     output: &mut O,
@@ -39,8 +39,8 @@ pub fn answer_by_parts<W: World, O: Write>(
     ensures quiet { IfSome result (λ shown. IfErr shown (λ failure. IsQuiet failure → output.new ≡ output.old)) }
     ensures whole { (fault : ForkFault) → result ≢ Some (Err (Failure.Fork fault)) }
 {
-    let mut store = file_of::<W>(rt, name)?;
-    match answer_in_parts(rt.alloc(), request, &mut store, output)? {
+    let mut store = file_of::<W>(host, name)?;
+    match answer_in_parts(host.alloc(), request, &mut store, output)? {
         Err(Failure::Fork(_)) => None,
         shown => Some(shown),
     }
@@ -48,11 +48,11 @@ pub fn answer_by_parts<W: World, O: Write>(
 
 /// The list of the resources of the file of this name, as JSON. None where all of the file has to be read.
 pub fn list_by_parts<W: World>(
-    rt: &HostRuntime,
+    host: &Host<'_>,
     name: &str,
     kinds: &[ResType],
 ) -> Option<Result<String, AllocError>> {
-    let mut store = file_of::<W>(rt, name)?;
-    let rows = rows_in_parts(rt.alloc(), &mut store)?.ok()?;
-    Some(fork_line(rt.alloc(), name, kinds, rows.as_slice()))
+    let mut store = file_of::<W>(host, name)?;
+    let rows = rows_in_parts(host.alloc(), &mut store)?.ok()?;
+    Some(fork_line(host.alloc(), name, kinds, rows.as_slice()))
 }

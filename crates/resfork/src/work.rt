@@ -5,6 +5,7 @@ ghost use Rattle.std.specs.Prelude.{◌≡◌, ◌≢◌, ◌≤◌, IfOk, Ok};
 use crate::asked_change::{Comparison, Copying, Packing, Putting, Removing, Setting, Target, Work};
 use crate::change::{change, create};
 use crate::convert::convert;
+use crate::host::Host;
 use crate::message::{CANT_GO_ON, DONE, NOT_FOUND, Problem};
 use crate::rez::{derez_file, pack_folder, rez_file};
 use crate::{INPUT, finish, fork_found, read, table_found, write_text};
@@ -26,12 +27,12 @@ struct Failed<'a> {
 }
 
 /// Does what is asked for. The result is the exit status.
-pub fn work(rt: &HostRuntime, work: Work<'_>) -> u8
+pub fn work(host: &Host<'_>, work: Work<'_>) -> u8
     ensures { result ≤ CANT_GO_ON }
 {
-    match done(rt, work) {
+    match done(host, work) {
         Ok(status) => status,
-        Err(Failed { file, problem }) => finish(rt, file, Err(problem)),
+        Err(Failed { file, problem }) => finish(host, file, Err(problem)),
     }
 }
 
@@ -43,36 +44,36 @@ fn of_file<'a, T>(file: &'a str, done: Result<T, Problem>) -> Result<T, Failed<'
 }
 
 /// Does what is asked for. The result is the exit status, or which file is in the way.
-fn done<'a>(rt: &HostRuntime, work: Work<'a>) -> Result<u8, Failed<'a>>
+fn done<'a>(host: &Host<'_>, work: Work<'a>) -> Result<u8, Failed<'a>>
     ensures { IfOk result (λ status. status ≤ NOT_FOUND) }
 {
     match work {
-        Work::Put(asked) => put(rt, asked),
-        Work::Remove(asked) => remove(rt, &asked),
-        Work::Set(asked) => set(rt, asked),
-        Work::Copy(asked) => copy_from(rt, &asked),
-        Work::Compare(asked) => compare(rt, asked),
+        Work::Put(asked) => put(host, asked),
+        Work::Remove(asked) => remove(host, &asked),
+        Work::Set(asked) => set(host, asked),
+        Work::Copy(asked) => copy_from(host, &asked),
+        Work::Compare(asked) => compare(host, asked),
         Work::Derez(asked) => of_file(
             asked.file,
-            derez_file(rt, asked.file, asked.kinds.as_slice()),
+            derez_file(host, asked.file, asked.kinds.as_slice()),
         ),
-        Work::Rez(target) => of_file(target.file, rez_file(rt, &target)),
-        Work::Pack(asked) => pack(rt, asked),
-        Work::Convert(asked) => of_file(asked.target.file, convert(rt, &asked)),
+        Work::Rez(target) => of_file(target.file, rez_file(host, &target)),
+        Work::Pack(asked) => pack(host, asked),
+        Work::Convert(asked) => of_file(asked.target.file, convert(host, &asked)),
     }
 }
 
 /// Puts bytes in the place of a resource's, or adds it.
-fn put<'a>(rt: &HostRuntime, asked: Putting<'a>) -> Result<u8, Failed<'a>>
+fn put<'a>(host: &Host<'_>, asked: Putting<'a>) -> Result<u8, Failed<'a>>
     ensures { IfOk result (λ status. status ≡ DONE) }
 {
     let input = asked.input.unwrap_or(INPUT);
-    let bytes = of_file(input, read(rt, input))?;
-    of_file(asked.target.file, put_bytes(rt, asked, &bytes))
+    let bytes = of_file(input, read(host, input))?;
+    of_file(asked.target.file, put_bytes(host, asked, &bytes))
 }
 
 /// Puts these bytes in the place of a resource's, or adds it.
-fn put_bytes(rt: &HostRuntime, asked: Putting<'_>, bytes: &[u8]) -> Result<u8, Problem>
+fn put_bytes(host: &Host<'_>, asked: Putting<'_>, bytes: &[u8]) -> Result<u8, Problem>
     ensures { IfOk result (λ status. status ≡ DONE) }
 {
     let edit = Edit::Put {
@@ -80,19 +81,19 @@ fn put_bytes(rt: &HostRuntime, asked: Putting<'_>, bytes: &[u8]) -> Result<u8, P
         bytes,
         is_new: asked.is_new,
     };
-    put_into(rt, &asked.target, asked.creates, edit)
+    put_into(host, &asked.target, asked.creates, edit)
 }
 
 /// Removes resources.
-fn remove<'a>(rt: &HostRuntime, asked: &Removing<'a>) -> Result<u8, Failed<'a>>
+fn remove<'a>(host: &Host<'_>, asked: &Removing<'a>) -> Result<u8, Failed<'a>>
     ensures { IfOk result (λ status. status ≡ DONE) }
 {
     let edit = Edit::Remove(asked.whats.as_slice());
-    of_file(asked.target.file, change(rt, &asked.target, &[], edit))
+    of_file(asked.target.file, change(host, &asked.target, &[], edit))
 }
 
 /// Changes all of a resource but its bytes.
-fn set<'a>(rt: &HostRuntime, asked: Setting<'a>) -> Result<u8, Failed<'a>>
+fn set<'a>(host: &Host<'_>, asked: Setting<'a>) -> Result<u8, Failed<'a>>
     ensures { IfOk result (λ status. status ≡ DONE) }
 {
     let target = asked.target;
@@ -100,70 +101,70 @@ fn set<'a>(rt: &HostRuntime, asked: Setting<'a>) -> Result<u8, Failed<'a>>
         what: asked.what,
         change: asked.change,
     };
-    of_file(target.file, change(rt, &target, &[], edit))
+    of_file(target.file, change(host, &target, &[], edit))
 }
 
 /// Copies resources of a file to another.
-fn copy_from<'a>(rt: &HostRuntime, asked: &Copying<'a>) -> Result<u8, Failed<'a>>
+fn copy_from<'a>(host: &Host<'_>, asked: &Copying<'a>) -> Result<u8, Failed<'a>>
     ensures { IfOk result (λ status. status ≡ DONE) }
 {
     let from = asked.from;
-    let bytes = of_file(from, read(rt, from))?;
-    let found = of_file(from, fork_found(rt, &bytes))?;
-    let table = of_file(from, table_found(rt, &found, &bytes))?;
-    copy_rows(rt, asked, table.rows.as_slice())
+    let bytes = of_file(from, read(host, from))?;
+    let found = of_file(from, fork_found(host, &bytes))?;
+    let table = of_file(from, table_found(host, &found, &bytes))?;
+    copy_rows(host, asked, table.rows.as_slice())
 }
 
 /// Copies those of these rows that are asked for to a file.
-fn copy_rows<'a>(rt: &HostRuntime, asked: &Copying<'a>, rows: &[Row<'_>]) -> Result<u8, Failed<'a>>
+fn copy_rows<'a>(host: &Host<'_>, asked: &Copying<'a>, rows: &[Row<'_>]) -> Result<u8, Failed<'a>>
     ensures { IfOk result (λ status. status ≡ DONE) }
 {
     let chosen = asked.chosen.as_slice();
-    of_file(asked.from, can_copy(rt, chosen, rows))?;
+    of_file(asked.from, can_copy(host, chosen, rows))?;
     let edit = Edit::Copy {
         chosen,
         on_collision: asked.on_collision,
     };
-    of_file(asked.target.file, change(rt, &asked.target, rows, edit))
+    of_file(asked.target.file, change(host, &asked.target, rows, edit))
 }
 
 /// Whether each choice means a row, and no two rows that are meant have one type and id.
-fn can_copy(rt: &HostRuntime, chosen: &[Choice], rows: &[Row<'_>]) -> Result<(), Problem> {
+fn can_copy(host: &Host<'_>, chosen: &[Choice], rows: &[Row<'_>]) -> Result<(), Problem> {
     match unmet(chosen, rows) {
         Some(Choice::One(what)) => return Err(Problem::Edit(Refusal::Missing(*what))),
         Some(Choice::Kind(kind)) => return Err(Problem::NoKind(*kind)),
         _ => {}
     }
-    match second_of(rt.alloc(), chosen, rows)? {
+    match second_of(host.alloc(), chosen, rows)? {
         Some(_) => Err(Problem::Twice),
         None => Ok(()),
     }
 }
 
 /// Writes what differs between two files. The result says whether something does.
-fn compare<'a>(rt: &HostRuntime, asked: Comparison<'a>) -> Result<u8, Failed<'a>>
+fn compare<'a>(host: &Host<'_>, asked: Comparison<'a>) -> Result<u8, Failed<'a>>
     ensures { IfOk result (λ status. status ≤ NOT_FOUND) }
 {
     let a = asked.a;
-    let bytes = of_file(a, read(rt, a))?;
-    let found = of_file(a, fork_found(rt, &bytes))?;
-    let table = of_file(a, table_found(rt, &found, &bytes))?;
-    of_file(asked.b, compare_with(rt, asked, &table))
+    let bytes = of_file(a, read(host, a))?;
+    let found = of_file(a, fork_found(host, &bytes))?;
+    let table = of_file(a, table_found(host, &found, &bytes))?;
+    of_file(asked.b, compare_with(host, asked, &table))
 }
 
 /// Writes what differs between the first file's table and the second file. The result says whether something does.
-fn compare_with(rt: &HostRuntime, asked: Comparison<'_>, old: &Table<'_>) -> Result<u8, Problem>
+fn compare_with(host: &Host<'_>, asked: Comparison<'_>, old: &Table<'_>) -> Result<u8, Problem>
     ensures { IfOk result (λ status. status ≤ NOT_FOUND) }
 {
-    let bytes = read(rt, asked.b)?;
-    let found = fork_found(rt, &bytes)?;
-    let new = table_found(rt, &found, &bytes)?;
-    write_differences(rt, asked, old, &new)
+    let bytes = read(host, asked.b)?;
+    let found = fork_found(host, &bytes)?;
+    let new = table_found(host, &found, &bytes)?;
+    write_differences(host, asked, old, &new)
 }
 
 /// Writes what differs between two tables. The result says whether something does.
 fn write_differences(
-    rt: &HostRuntime,
+    host: &Host<'_>,
     asked: Comparison<'_>,
     old: &Table<'_>,
     new: &Table<'_>,
@@ -171,8 +172,8 @@ fn write_differences(
     ensures differs { IfOk result (λ status. old.now ≢ new.now → status ≡ NOT_FOUND) }
     ensures few { IfOk result (λ status. status ≤ NOT_FOUND) }
 {
-    let differences = fork_change::compare(rt.alloc(), old, new)?;
-    write_text(rt, &difference_text(rt.alloc(), asked, &differences)?)?;
+    let differences = fork_change::compare(host.alloc(), old, new)?;
+    write_text(host, &difference_text(host.alloc(), asked, &differences)?)?;
     Ok(if differences.is_empty() {
         DONE
     } else {
@@ -193,40 +194,40 @@ fn difference_text(
 }
 
 /// Writes a fork of the files in a folder, alone or in a file like another one.
-fn pack<'a>(rt: &HostRuntime, asked: Packing<'a>) -> Result<u8, Failed<'a>>
+fn pack<'a>(host: &Host<'_>, asked: Packing<'a>) -> Result<u8, Failed<'a>>
     ensures { IfOk result (λ status. status ≡ DONE) }
 {
     let bytes = match asked.like {
-        Some(like) => of_file(like, read(rt, like))?,
-        None => Vec::new(rt.alloc()),
+        Some(like) => of_file(like, read(host, like))?,
+        None => Vec::new(host.alloc()),
     };
     of_file(
         asked.folder,
-        pack_folder(rt, asked.folder, &bytes, &asked.target),
+        pack_folder(host, asked.folder, &bytes, &asked.target),
     )
 }
 
 /// Changes a file, or makes it where it isn't there and may be made.
 fn put_into(
-    rt: &HostRuntime,
+    host: &Host<'_>,
     target: &Target<'_>,
     creates: bool,
     edit: Edit<'_>,
 ) -> Result<u8, Problem>
     ensures { IfOk result (λ status. status ≡ DONE) }
 {
-    if target.file == INPUT || is_there(rt, target.file) {
-        change(rt, target, &[], edit)
+    if target.file == INPUT || is_there(host, target.file) {
+        change(host, target, &[], edit)
     } else if creates {
-        create(rt, target, &[], edit)
+        create(host, target, &[], edit)
     } else {
         Err(Problem::NoFile)
     }
 }
 
 /// Whether there is a file of this name, or something is in the way of finding out.
-fn is_there(rt: &HostRuntime, file: &str) -> bool {
-    match fs::metadata(rt, file) {
+fn is_there(host: &Host<'_>, file: &str) -> bool {
+    match fs::metadata(host.rt, file) {
         Err(error) => error.kind() != ErrorKind::NotFound,
         Ok(_) => true,
     }

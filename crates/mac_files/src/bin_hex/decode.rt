@@ -1,6 +1,6 @@
 //! The bytes that a text stands for.
 
-ghost use Rattle.std.specs.Prelude.{◌≡◌, ◌<◌, ◌≤◌, ◌+◌, ◌++◌, length, replicate, slice_index, vec_len, vec_capacity, IfOk, IfSome};
+ghost use Rattle.std.specs.Prelude.{◌≡◌, ◌<◌, ◌≤◌, ◌+◌, ◌++◌, length, replicate, slice_index, vec_len, vec_capacity, IfOk, IfSome, IsNone, ◌^◌};
 ghost use Rattle.mac_files.specs.BinHex.{decoded_from, places_of};
 ghost use Rattle.mac_files.specs.BinHexFiles.{IsDecoded};
 
@@ -18,8 +18,9 @@ pub struct Decoded<'a> {
 }
 
 /// How many bytes a text stands for from an offset on, if that is a number of the host.
-fn decoded_length(text: &[u8], from: usize) -> Option<usize>
-    ensures { IfSome result (λ count. count ≡ length (decoded_from from text.now).values) }
+pub fn decoded_length(text: &[u8], from: usize) -> Option<usize>
+    ensures some { IfSome result (λ count. count ≡ length (decoded_from from text.now).values) }
+    ensures none { IsNone result → 2 ^ 64 ≤ length (decoded_from from text.now).values }
 {
     let mut runs = Runs::new(text, from);
     let mut count = 0usize;
@@ -57,16 +58,19 @@ fn push_run(bytes: &mut Vec<u8>, run: Run)
     }
 }
 
-/// The bytes that a text stands for from an offset on, in a block of memory of just that size.
-pub fn decode(alloc: Global, text: &[u8], from: usize) -> Result<Decoded<'_>, AllocError>
+/// The bytes that a text stands for from an offset on, which are so many, in a block of memory of just that size.
+pub fn decode(
+    alloc: Global,
+    text: &[u8],
+    from: usize,
+    count: usize,
+) -> Result<Decoded<'_>, AllocError>
+    requires { count ≡ length (decoded_from from text.now).values }
     ensures same_text { IfOk result (λ decoded. (decoded.text.now ≡ text.now) × (decoded.from ≡ from)) }
     ensures decoded { IfOk result IsDecoded }
     ensures room { IfOk result (λ decoded. vec_capacity decoded.bytes ≡ vec_len decoded.bytes) }
 {
-    let Some(length) = decoded_length(text, from) else {
-        return Err(AllocError);
-    };
-    let mut bytes = Vec::with_capacity(alloc, length)?;
+    let mut bytes = Vec::with_capacity(alloc, count)?;
     let mut runs = Runs::new(text, from);
     let ending = loop {
         match runs.next_run() {

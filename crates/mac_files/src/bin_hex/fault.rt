@@ -57,6 +57,12 @@ pub enum BinHexFault {
         stored: u16,
         computed: u16,
     },
+    /// It stands for so many bytes, which are more than the most that are read of it.
+    #[error("the text stands for {length} bytes, and at most {most} are read of it")]
+    TooLong {
+        length: usize,
+        most: usize,
+    },
     /// The host has no memory for the decoded bytes.
     #[error("the host has no memory")]
     HostFull,

@@ -1,12 +1,13 @@
 //! A BinHex text is read.
 
-ghost use Rattle.std.specs.Prelude.{◌≡◌, ◌<◌, ◌≤◌, ◌+◌, ◌^◌, length, vec_len, vec_capacity, IfOk, OnOk};
+ghost use Rattle.std.specs.Prelude.{◌≡◌, ◌<◌, ◌≤◌, ◌+◌, ◌^◌, ◌⊎◌, length, vec_len, vec_capacity, Err, IfOk, OnOk};
 ghost use Rattle.std.specs.Result.{result_err};
-ghost use Rattle.mac_files.specs.BinHex.{bin_hex_of, data_length, name_length, resource_length, section_fault, values_of};
+ghost use Rattle.mac_files.specs.declared.bin_hex.fault.BinHexFault.TheVariants.{HostFull};
+ghost use Rattle.mac_files.specs.BinHex.{bin_hex_of, bin_hex_within, data_length, length_of, most_of, name_length, resource_length, section_fault, values_of};
 ghost use Rattle.mac_files.specs.BinHexFiles.{Gives, GivesFrom, IsDecoded, reading_of};
 
 use crate::bin_hex::crc::crc;
-use crate::bin_hex::decode::{Decoded, decode, place_of};
+use crate::bin_hex::decode::{Decoded, decode, decoded_length, place_of};
 use crate::bin_hex::fault::{BinHexFault, Section};
 use crate::bin_hex::file::BinHexFile;
 use crate::bin_hex::find::find_colon;
@@ -106,17 +107,52 @@ fn file_in(decoded: Decoded) -> Result<BinHexFile, BinHexFault>
     })
 }
 
-/// The file that a text stands for, in one block of memory that has just the decoded bytes. A fault is the first in the
-/// order of the text; HostFull comes only where the host has no memory for that block.
-pub fn read_bin_hex(alloc: Global, text: &[u8]) -> Result<BinHexFile, BinHexFault>
-    ensures file { Gives result (bin_hex_of text.now) }
+/// The most bytes that are read of each text, however short it is.
+const LEAST_BOUND: usize = 67_108_864;
+
+/// The most bytes that are read of a text of this length, where no other bound is given: 64 MiB, or three times as many
+/// as the text has.
+pub fn most_of(count: usize) -> usize
+    ensures { result ≡ most_of count }
+{
+    count.saturating_mul(3).max(LEAST_BOUND)
+}
+
+/// The file that a text stands for, in one block of memory that has just the decoded bytes. A text that stands for more
+/// bytes than this bound is refused, with no memory for them. Any other fault is the first in the order of the text;
+/// HostFull comes only where the host has no memory for that block.
+pub fn read_bin_hex_within(
+    alloc: Global,
+    text: &[u8],
+    most: usize,
+) -> Result<BinHexFile, BinHexFault>
+    ensures file { Gives result (bin_hex_within most text.now) }
+    ensures bounded { result ≡ Err HostFull → (length_of text.now ≤ most) ⊎ (2 ^ 64 ≤ length_of text.now) }
     ensures memory { IfOk result (λ file. vec_capacity file.bytes ≡ vec_len file.bytes) }
 {
     let Some(colon) = find_colon(text) else {
         return Err(BinHexFault::NoText);
     };
-    let Ok(decoded) = decode(alloc, text, colon + 1) else {
+    let from = colon + 1;
+    let Some(count) = decoded_length(text, from) else {
+        return Err(BinHexFault::HostFull);
+    };
+    if most < count {
+        return Err(BinHexFault::TooLong {
+            length: count,
+            most,
+        });
+    }
+    let Ok(decoded) = decode(alloc, text, from, count) else {
         return Err(BinHexFault::HostFull);
     };
     file_in(decoded)
+}
+
+/// The same, with the bound of a text of this length.
+pub fn read_bin_hex(alloc: Global, text: &[u8]) -> Result<BinHexFile, BinHexFault>
+    ensures file { Gives result (bin_hex_of text.now) }
+    ensures memory { IfOk result (λ file. vec_capacity file.bytes ≡ vec_len file.bytes) }
+{
+    read_bin_hex_within(alloc, text, most_of(text.len()))
 }

@@ -3,4 +3,4 @@ use Rattle.file_replace.specs.declared.calls.HeldCall.TheVariants.{OpenFolder}
 use Rattle.std.proofs.Common.{◌∷◌}
 
 abbrev pub ghost-of_events_beside : goal.ghost-of_events_beside
-ghost-of_events_beside a = OpenFolder a._first.now ∷ a._past.now.events
+ghost-of_events_beside a = OpenFolder a._first.now a._second.now ∷ a._past.now.events

@@ -4,9 +4,10 @@ use Rattle.std.proofs.lemmas.List.{length-map}
 use Rattle.std.proofs.lemmas.Result.{err_from_is_err_and}
 use Rattle.fork_bytes.specs.declared.fault.Condition.TheVariants.{RowCount, Types}
 use Rattle.fork_bytes.specs.declared.fault.ForkFault.{ForkFault}
-use Rattle.fork_bytes.specs.Fork.{references_of, map_row, attributes_of, RefusesWithin}
+use Rattle.fork_bytes.specs.Fork.{references_of, map_row, attributes_of, most_rows, RefusesWithin}
 use Rattle.fork_bytes.specs.Rows.{MapRow}
 use Rattle.fork_bytes.specs.Reading.{PlacedRow, AreFewBytesWithin}
+use Rattle.fork_bytes.proofs.Room.{most_of}
 use Rattle.fork_rows.proofs.Grouped.{grouped_in}
 use Rattle.fork_rows.proofs.Opened.{all_end, read_in_turn, places_refused, bytes_refused, has_places, opened_as, refused_as}
 use Rattle.fork_rows.specs.Opening.{AreGrouped, EndsBy, kinds_in}
@@ -61,7 +62,8 @@ returns-clause-inside g c =
 
 pub returns-clause-most : goal.returns-clause-most
 returns-clause-most g c =
-    let few : length (references_of c.deref.result.now) ≤ c.args.limits.rows = c.in_ok-read_map.ensures.holds RowCount in
+    let few : length (references_of c.deref.result.now) ≤ most_rows c.args.limits (length c.deref.result.now) = c.in_ok-read_map.ensures.holds RowCount in
+    let most = most_of c.args.limits (length c.deref.result.now) in
     let listed = ap (λ (r : List MapRow). length r) c.in_ok-read_map.ensures.rows ∙ length-map (references_of c.deref.result.now) (map_row c.deref.result.now) in
     let placed = ap (λ (r : List PlacedRow). length r) c.new.ensures ∙ c.in_ok-rows.ensures.count in
     omega arith

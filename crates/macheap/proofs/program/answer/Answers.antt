@@ -6,11 +6,11 @@ use Rattle.macheap.proofs.program.answer.Goals as goal
 pub returns-in-Help-clause-ends : goal.returns-in-Help-clause-ends
 returns-in-Help-clause-ends g c =
     let e = c.show_help.ensures.ends in
-    ([], sym (append-nil _), ([], Gave-none _ _, (e.0, [], e.1, Took-none _ _, rw c.in-Help.is ((refl, refl), (e.2, refl)))))
+    ([], [], sym (append-nil _), sym (append-nil _), ([], Gave-none _ _, (e.0, [], e.1, Took-none _ _, rw c.in-Help.is ((refl, refl, refl), (e.2, refl)))))
 
 pub returns-in-Run-clause-ends : goal.returns-in-Run-clause-ends
 returns-in-Run-clause-ends g c =
     let e = c.run_over.ensures.ends in
-    let did = e.2 in
+    let did = e.4 in
     let told = did.2 in
-    (e.0, e.1, (did.0, did.1, (told.0, told.1, told.2, told.3, rw c.in-Run.is told.4)))
+    (e.0, e.1, e.2, e.3, (did.0, did.1, (told.0, told.1, told.2, told.3, rw c.in-Run.is told.4)))

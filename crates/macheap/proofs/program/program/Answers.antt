@@ -7,11 +7,11 @@ use Rattle.macheap.proofs.program.program.Goals as goal
 pub returns-in-Ok-clause-ends : goal.returns-in-Ok-clause-ends
 returns-in-Ok-clause-ends g c =
     let e = c.answer.ensures.ends in
-    let did = e.2 in
+    let did = e.4 in
     let told = did.2 in
-    (e.0, e.1, (did.0, did.1, (told.0, told.1, told.2, told.3, answered _ _ _ _ c.in-Ok.asked c.in-Ok.ensures told.4)))
+    (e.0, e.1, e.2, e.3, (did.0, did.1, (told.0, told.1, told.2, told.3, answered _ _ _ _ _ c.in-Ok.asked c.in-Ok.ensures told.4)))
 
 pub returns-in-Err-clause-ends : goal.returns-in-Err-clause-ends
 returns-in-Err-clause-ends g c =
     let told = c.refuse.ensures.ends in
-    ([], sym (append-nil _), ([], Gave-none _ _, (told.0, told.1, told.2, told.3, was_refused _ _ _ _ c.in-Err.error c.in-Err.ensures (refl, refl) told.4)))
+    ([], [], sym (append-nil _), sym (append-nil _), ([], Gave-none _ _, (told.0, told.1, told.2, told.3, was_refused _ _ _ _ _ c.in-Err.error c.in-Err.ensures (refl, refl, refl) told.4)))

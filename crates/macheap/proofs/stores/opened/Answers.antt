@@ -1,8 +1,10 @@
 use Rattle.std.proofs.Common.{◌≡◌, List, ℕ, [], ◌∷◌, ◌++◌, ◌+◌, Ok, Err, take, map, sym, ap, subst, ◌∙◌, refl, append_assoc, slice_index_or, Bor}
-use Rattle.std.proofs.lemmas.List.{append-nil}
+use Rattle.std.proofs.lemmas.List.{append-nil, map-append, take_all}
 use Rattle.clap.specs.Words.{Text}
+use Rattle.macheap.specs.Claiming.{AreNamed, IsNamed}
+use Rattle.macheap.specs.declared.claimed.FileId.{FileId}
 use Rattle.macheap.specs.Stores.{Asked, Opening}
-use Rattle.macheap.proofs.Opening.{all_asked, asked_length, asked_more, cant_next, same_default, some_first}
+use Rattle.macheap.proofs.Opening.{all_asked, asked_length, asked_more, cant_next, named_more, same_default, some_first}
 use Rattle.macheap.proofs.stores.opened.Goals as goal
 
 abbrev now_of : Bor (List ℕ) → Text
@@ -16,6 +18,9 @@ loop-path-init g c = (
   [],
   sym (append-nil _),
   subst (λ (files : List g.row.F.Denot). Asked [] (map Ok files) []) (sym c.new-files.ensures.items) (record { paths_are = refl; files_are = refl }),
+  subst (AreNamed g.O.Opens.asking c.args.naming c.args.known.now.items []) (sym c.new-files.ensures.items) tt,
+  sym (append-nil _) ∙ ap (λ (files : List g.row.F.Denot). c.args.known.now.items ++ map g.O.Opens.asking.id files) (sym c.new-files.ensures.items),
+  refl,
 )
 
 pub returns-in-Err-clause-files : goal.returns-in-Err-clause-files
@@ -26,8 +31,8 @@ returns-in-Err-clause-files g c =
     let path = slice_index_or paths at nowhere in
     let opening : Opening g.row.F.Denot = (path.now, Err c.in-Err.why) in (
       i.0 ++ opening ∷ [],
-      c.in-Err.ensures ∙ ap (λ (t : List (Opening g.row.F.Denot)). t ++ opening ∷ []) i.1 ∙ append_assoc _ i.0 (opening ∷ []),
-      cant_next [] paths now_of at path c.in-Err.why c.loop-path.files.items i.0 c.loop-path-test.true (same_default paths at nowhere path c.loop-path-test.true) i.2,
+      c.in-Err.ensures.noted ∙ ap (λ (t : List (Opening g.row.F.Denot)). t ++ opening ∷ []) i.1 ∙ append_assoc _ i.0 (opening ∷ []),
+      (cant_next [] paths now_of at path c.in-Err.why c.loop-path.files.items i.0 c.loop-path-test.true (same_default paths at nowhere path c.loop-path-test.true) i.2, λ twice. (c.in-Err.ensures.opens twice).0),
     )
 
 pub loop-path-preserved : goal.loop-path-preserved
@@ -38,14 +43,22 @@ loop-path-preserved g c =
     let path = slice_index_or paths at nowhere in
     let file = c.in-Ok.file in
     let opening : Opening g.row.F.Denot = (path.now, Ok file) in
-    let more = asked_more [] paths now_of at path c.loop-path.files.items file i.0 c.loop-path-test.true (same_default paths at nowhere path c.loop-path-test.true) i.2 in (
+    let more = asked_more [] paths now_of at path c.loop-path.files.items file i.0 c.loop-path-test.true (same_default paths at nowhere path c.loop-path-test.true) i.2 in
+    let is : IsNamed g.O.Opens.asking c.args.naming (c.args.known.now.items ++ map g.O.Opens.asking.id c.loop-path.files.items) path.now file
+    = subst (λ (ids : List FileId). IsNamed g.O.Opens.asking c.args.naming ids path.now file) (c.as_slice.ensures.value ∙ i.4) c.in-Ok.ensures.opens in
+    let named = named_more g.O.Opens.asking c.args.naming c.args.known.now.items [] paths now_of at path c.loop-path.files.items file c.loop-path-test.true (same_default paths at nowhere path c.loop-path-test.true) i.3 is in (
       i.0 ++ opening ∷ [],
-      c.in-Ok.ensures ∙ ap (λ (t : List (Opening g.row.F.Denot)). t ++ opening ∷ []) i.1 ∙ append_assoc _ i.0 (opening ∷ []),
-      subst (λ (files : List g.row.F.Denot). Asked (map now_of (take (at + 1) paths)) (map Ok files) (i.0 ++ opening ∷ [])) (sym c.in-Ok-push.ensures.items) more,
+      c.in-Ok.ensures.noted ∙ ap (λ (t : List (Opening g.row.F.Denot)). t ++ opening ∷ []) i.1 ∙ append_assoc _ i.0 (opening ∷ []),
+      subst (λ (files : List g.row.F.Denot). Asked (map now_of (take (at + 1) paths)) (map Ok files) (i.0 ++ opening ∷ [])) (sym c.in-Ok-push_both.ensures.items) more,
+      subst (AreNamed g.O.Opens.asking c.args.naming c.args.known.now.items (map now_of (take (at + 1) paths))) (sym c.in-Ok-push_both.ensures.items) named,
+      c.in-Ok-push_both.ensures.known ∙ ap (λ (ids : List FileId). ids ++ c.id-id.result ∷ []) i.4 ∙ append_assoc c.args.known.now.items _ (c.id-id.result ∷ [])
+          ∙ ap (λ (ids : List FileId). c.args.known.now.items ++ ids)
+          (ap (λ (id : FileId). map g.O.Opens.asking.id c.loop-path.files.items ++ id ∷ []) c.id-id.ensures ∙ sym (map-append g.O.Opens.asking.id c.loop-path.files.items (file ∷ [])) ∙ ap (map g.O.Opens.asking.id) (sym c.in-Ok-push_both.ensures.items)),
+      c.in-Ok.ensures.none_closed ∙ i.5,
     )
 
-pub returns-in-Err-push-clause-files : goal.returns-in-Err-push-clause-files
-returns-in-Err-push-clause-files g c =
+pub returns-in-Err-push_both-clause-files : goal.returns-in-Err-push_both-clause-files
+returns-in-Err-push_both-clause-files g c =
     let paths = c.args.paths.now in
     let i = c.loop-path.invariant in
     let at = c.loop-path.path-index in
@@ -54,7 +67,7 @@ returns-in-Err-push-clause-files g c =
     let opening : Opening g.row.F.Denot = (path.now, Ok file) in
     let more = asked_more [] paths now_of at path c.loop-path.files.items file i.0 c.loop-path-test.true (same_default paths at nowhere path c.loop-path-test.true) i.2 in (
       i.0 ++ opening ∷ [],
-      c.in-Ok.ensures ∙ ap (λ (t : List (Opening g.row.F.Denot)). t ++ opening ∷ []) i.1 ∙ append_assoc _ i.0 (opening ∷ []),
+      c.in-Ok.ensures.noted ∙ ap (λ (t : List (Opening g.row.F.Denot)). t ++ opening ∷ []) i.1 ∙ append_assoc _ i.0 (opening ∷ []),
       some_first [] paths now_of (at + 1) (c.loop-path.files.items ++ file ∷ []) (i.0 ++ opening ∷ []) more,
     )
 
@@ -67,3 +80,20 @@ pub returns-clause-count : goal.returns-clause-count
 returns-clause-count g c =
     let i = c.loop-path.invariant in
     asked_length c.args.paths.now now_of c.loop-path.files.items i.0 (all_asked [] c.args.paths.now now_of c.loop-path.path-index c.loop-path.files.items i.0 c.loop-path-test.false i.2)
+
+pub returns-clause-named : goal.returns-clause-named
+returns-clause-named g c =
+    let i = c.loop-path.invariant in
+    subst (λ (l : List (Bor (List ℕ))). AreNamed g.O.Opens.asking c.args.naming c.args.known.now.items (map now_of l) c.loop-path.files.items) (take_all c.loop-path.path-index c.args.paths.now c.loop-path-test.false) i.3
+
+pub returns-clause-known : goal.returns-clause-known
+returns-clause-known g c = c.loop-path.invariant.4
+
+pub returns-in-Err-clause-none_closed : goal.returns-in-Err-clause-none_closed
+returns-in-Err-clause-none_closed g c = c.in-Err.ensures.none_closed ∙ c.loop-path.invariant.5
+
+pub returns-in-Err-push_both-clause-none_closed : goal.returns-in-Err-push_both-clause-none_closed
+returns-in-Err-push_both-clause-none_closed g c = c.in-Ok.ensures.none_closed ∙ c.loop-path.invariant.5
+
+pub returns-clause-none_closed : goal.returns-clause-none_closed
+returns-clause-none_closed g c = c.loop-path.invariant.5

@@ -1,4 +1,5 @@
 use Rattle.std.proofs.Common.{◌≡◌, List, [], ◌++◌, Ok, map, take}
+use Rattle.macheap.specs.Claiming.{AreNamed}
 use Rattle.macheap.specs.Stores.{Asked, Opening}
 use Rattle.macheap.proofs.stores.opened.Given as goal
 
@@ -8,3 +9,6 @@ invariant-loop-path g l =
     (openings : List (Opening g.row.F.Denot))
     × (g.O.Opens.openings l.opener ≡ g.O.Opens.openings l.fn.opener ++ openings)
     × Asked ([] ++ map (λ path. path.now) (take l.path-index l.paths)) (map Ok l.files.items) openings
+    × AreNamed g.O.Opens.asking l.fn.naming l.fn.known.items ([] ++ map (λ path. path.now) (take l.path-index l.paths)) l.files.items
+    × (l.known.items ≡ l.fn.known.items ++ map g.O.Opens.asking.id l.files.items)
+    × (g.O.Opens.closed l.opener ≡ g.O.Opens.closed l.fn.opener)

@@ -1,4 +1,5 @@
-use Rattle.std.proofs.Common.{◌≡◌, ◌++◌, length}
+use Rattle.std.proofs.Common.{◌≡◌, ◌+◌, ◌≤◌, ◌++◌, length}
+use Rattle.std.specs.Vec.{vec_capacity}
 use Rattle.std.specs.Vec.Iter.{into_iter_items, into_iter_len}
 use Rattle.macheap.specs.Stores.{AreOn}
 use Rattle.macheap.proofs.stores.stores_on.Given as goal
@@ -9,3 +10,4 @@ invariant-loop-fork g l = (l.yielded ++ into_iter_items l.fork-iterator ≡ into
     × AreOn g.O.Opens.plain 0 l.yielded l.stores.items
     × (length l.stores.items ≡ length l.yielded)
     × (into_iter_len l.fork-iterator ≡ length (into_iter_items l.fork-iterator))
+    × (length l.yielded + into_iter_len l.fork-iterator ≤ vec_capacity l.stores)

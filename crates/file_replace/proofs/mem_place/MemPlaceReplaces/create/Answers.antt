@@ -4,7 +4,7 @@ use Rattle.file_replace.specs.Memory.{seen}
 use Rattle.file_replace.proofs.mem_place.MemPlaceReplaces.create.Goals as goal
 
 abbrev empty_of : List ℕ → PlainFile
-empty_of bytes = record { bytes = bytes; mode = 420 }
+empty_of bytes = record { bytes = bytes; owner = record { user = 0; group = 0 }; mode = 420 }
 
 pub returns-clause-creates : goal.returns-clause-creates
 returns-clause-creates c =

@@ -8,7 +8,7 @@ pub loop-run-init : goal.loop-run-init
 loop-run-init c = record {
   bytes = rw (c.in_ok-bytes.ensures.items, c.new-runs.ensures.all) refl;
   ending = rw c.new-runs.ensures.all refl;
-  room = rw c.new-runs.ensures.all (omega (arith, c.in_ok-bytes.ensures.exact, c.in_ok-bytes.ensures.len, c.in-Some.ensures));
+  room = rw c.new-runs.ensures.all (omega (arith, c.in_ok-bytes.ensures.exact, c.in_ok-bytes.ensures.len, c.requires));
   text = c.new-runs.ensures.same_text;
 }
 

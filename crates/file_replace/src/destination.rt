@@ -1,0 +1,215 @@
+//! Where a file is to be put: over a file, at a path that has none, or into a stream.
+
+ghost use Rattle.std.specs.Prelude.{◌≡◌, IfErr, IfOk, None, Some};
+ghost use Rattle.std.specs.Path.{path_buf_bytes};
+ghost use Rattle.file_replace.specs.Held.{BacksUp, IsUnopened, MakesOver, MakesPrepared, OpensAs, PreparesAt, PreparesHeld, backup_name, kind_of};
+ghost use Rattle.file_replace.specs.declared.calls.Wanted.TheVariants.{Nothing, Same};
+
+use crate::calls::{HeldCalls, Kind};
+use crate::held::{Held, look, unopened};
+use crate::host_place::There;
+use crate::links::followed;
+use crate::prepared::{NewFile, Prepared, Stream, put_over};
+use crate::told::NotReplaced;
+use crate::world::FolderWorld;
+use std::alloc::AllocError;
+use std::fs::{File, OpenOptions};
+use std::path::PathBuf;
+
+/// A path that is open to be written.
+#[derive(Drop)]
+pub enum Destination {
+    /// A regular file, which is locked.
+    Existing(Held),
+    /// A path that has nothing so far.
+    New(NewPath),
+    /// No regular file, as a device or a pipe.
+    Stream(OpenStream),
+}
+
+/// A path that has nothing so far, and is no link.
+#[derive(Drop)]
+pub struct NewPath {
+    path: PathBuf,
+}
+
+/// What is no regular file, open to be written.
+#[derive(Drop)]
+pub struct OpenStream {
+    file: File,
+}
+
+/// Opens what is no regular file. Nothing is made or emptied. What it is is asked of what was opened.
+fn open_stream(rt: &HostRuntime, path: &str) -> Result<File, NotReplaced>
+    ensures { IfErr result IsUnopened }
+{
+    let file = OpenOptions::new()
+        .write(true)
+        .open(rt, path)
+        .map_err(unopened)?;
+    if file.metadata().map_err(unopened)?.is_file() {
+        return Err(NotReplaced::Moved);
+    }
+    Ok(file)
+}
+
+impl Destination {
+    /// Opens a path that is to be written. A regular file is locked, and links are followed to it. At a path that has
+    /// nothing, nothing is made. It fails where the path can't be looked up or opened, where another program holds the
+    /// file's lock, and where another puts something else at the path at the same time. What was found is noted.
+    pub fn open(
+        rt: &HostRuntime,
+        path: &str,
+        log: &mut HeldCalls,
+    ) -> Result<Destination, NotReplaced>
+        ensures { OpensAs kind_of result log.old.events log.new.events }
+    {
+        match look(rt, path, log) {
+            Ok(kind) => Destination::open_as(rt, path, kind),
+            Err(refusal) => Err(refusal),
+        }
+    }
+
+    /// Opens a path that leads to this.
+    fn open_as(rt: &HostRuntime, path: &str, kind: Kind) -> Result<Destination, NotReplaced>
+        ensures opened { IfOk result (λ destination. kind_of destination ≡ kind) }
+        ensures refuses { IfErr result IsUnopened }
+    {
+        match kind {
+            Kind::Regular => match Held::open_found(rt, path) {
+                Ok(held) => Ok(Destination::Existing(held)),
+                Err(refusal) => Err(refusal),
+            },
+            Kind::Missing => match followed(rt, path) {
+                Ok(path) => Ok(Destination::New(NewPath { path })),
+                Err(error) => Err(unopened(error)),
+            },
+            Kind::Other => match open_stream(rt, path) {
+                Ok(file) => Ok(Destination::Stream(OpenStream { file })),
+                Err(refusal) => Err(refusal),
+            },
+        }
+    }
+
+    /// Makes a file of these bytes beside the path, to be put there. Of a stream nothing is done yet.
+    pub fn prepare<'a, F: FolderWorld>(
+        self,
+        rt: &'a HostRuntime,
+        bytes: &'a [u8],
+        log: &mut HeldCalls,
+    ) -> Result<Prepared<'a, F>, NotReplaced>
+        ensures { PreparesAt F.held self bytes.now result log.old.events log.new.events }
+    {
+        match self {
+            Destination::Existing(held) => held.prepared(rt, bytes, log),
+            Destination::New(new) => new.prepared(rt, bytes, log),
+            Destination::Stream(OpenStream { file }) => {
+                Ok(Prepared::Stream(Stream { file, bytes }))
+            }
+        }
+    }
+}
+
+impl NewPath {
+    /// Makes a file of these bytes beside the path.
+    fn prepared<'a, F: FolderWorld>(
+        self,
+        rt: &'a HostRuntime,
+        bytes: &[u8],
+        log: &mut HeldCalls,
+    ) -> Result<Prepared<'a, F>, NotReplaced>
+        ensures { MakesPrepared F.held (path_buf_bytes self.path) Nothing None 1 bytes.now result log.old.events log.new.events }
+    {
+        match NewFile::prepare(rt, self.path, There::Nothing, bytes, None, 1, log) {
+            Ok(file) => Ok(Prepared::File(file)),
+            Err(stop) => Err(NotReplaced::Stopped(stop)),
+        }
+    }
+}
+
+/// The path of a file's backup.
+fn backup_of(rt: &HostRuntime, path: &PathBuf) -> Result<PathBuf, AllocError>
+    ensures { IfOk result (λ name. path_buf_bytes name ≡ backup_name (path_buf_bytes path.now)) }
+{
+    let mut name = String::from_str(rt.alloc(), path.as_str())?;
+    name.push('~')?;
+    PathBuf::from_str(rt.alloc(), name.as_str())
+}
+
+impl Held {
+    /// Makes a file of the new bytes beside this one, to be put in its place. The old bytes are those that were read of
+    /// it. Where the new ones are the same, nothing is done. Where the old ones are to be kept, a copy of them is put
+    /// at the file's name with a tilde, NAME~, before that; the file itself isn't touched.
+    pub fn prepare<'a, F: FolderWorld, B: FolderWorld>(
+        self,
+        rt: &'a HostRuntime,
+        old: &[u8],
+        new: &[u8],
+        keeps_old: bool,
+        log: &mut HeldCalls,
+    ) -> Result<Prepared<'a, F>, NotReplaced>
+        ensures { PreparesHeld F.held B.held keeps_old self old.now new.now result log.old.events log.new.events }
+    {
+        if old == new {
+            return Ok(Prepared::Unchanged);
+        }
+        self.prepared_over::<F, B>(rt, old, new, keeps_old, log)
+    }
+
+    /// Makes a file of these bytes beside this one, after a copy of it, where one is to be kept.
+    fn prepared_over<'a, F: FolderWorld, B: FolderWorld>(
+        self,
+        rt: &'a HostRuntime,
+        old: &[u8],
+        new: &[u8],
+        keeps_old: bool,
+        log: &mut HeldCalls,
+    ) -> Result<Prepared<'a, F>, NotReplaced>
+        ensures { MakesOver F.held B.held keeps_old self old.now new.now result log.old.events log.new.events }
+    {
+        if !keeps_old {
+            return self.prepared(rt, new, log);
+        }
+        match self.back_up::<B>(rt, old, log) {
+            Ok(()) => self.prepared(rt, new, log),
+            Err(refusal) => Err(refusal),
+        }
+    }
+
+    /// Puts a copy of the file beside it.
+    fn back_up<B: FolderWorld>(
+        &self,
+        rt: &HostRuntime,
+        bytes: &[u8],
+        log: &mut HeldCalls,
+    ) -> Result<(), NotReplaced>
+        ensures { BacksUp B.held self.now bytes.now result log.old.events log.new.events }
+    {
+        let name = backup_of(rt, &self.path)?;
+        match put_over::<B>(rt, &name, bytes, self.rights, log) {
+            Ok(_) => Ok(()),
+            Err(stop) => Err(NotReplaced::NoBackup { name, stop }),
+        }
+    }
+
+    /// Makes a file of these bytes beside this one.
+    fn prepared<'a, F: FolderWorld>(
+        self,
+        rt: &'a HostRuntime,
+        bytes: &[u8],
+        log: &mut HeldCalls,
+    ) -> Result<Prepared<'a, F>, NotReplaced>
+        ensures { MakesPrepared F.held (path_buf_bytes self.path) Same (Some self.rights) self.names bytes.now result log.old.events log.new.events }
+    {
+        let Held {
+            file,
+            path,
+            rights,
+            names,
+        } = self;
+        match NewFile::prepare(rt, path, There::This(file), bytes, Some(rights), names, log) {
+            Ok(file) => Ok(Prepared::File(file)),
+            Err(stop) => Err(NotReplaced::Stopped(stop)),
+        }
+    }
+}

@@ -1,0 +1,5 @@
+use Rattle.std.proofs.Common.{◌∷◌, []}
+use Rattle.macheap.proofs.claimed.Lock.take.Given as goal
+
+abbrev pub ghost-of_events_beside : goal.ghost-of_events_beside
+ghost-of_events_beside a = a._first.now.now ∷ []

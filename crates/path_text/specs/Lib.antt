@@ -1,0 +1,3 @@
+pub mod Harm
+pub mod FileNames
+pub mod ShellWords
