@@ -16,11 +16,14 @@ import tempfile
 from checks.fork_questions import Difference
 from checks.forks import compare, run
 from checks.shown import fork_of, must, write
+from measured import Measure
 from model.fork import Row
 
 # a user other than the one who runs the checks, and the seconds and the bytes that a command may take besides three times its file
 OTHER = 12345
 SECONDS, BYTES = 1.0, 48 << 20
+# the bytes that a program gets at most
+MOST = 4 << 30
 # the most bytes that the resources of a fork have, and that a BinHex text stands for which has at most a third of them
 FORK, UNPACKED = 16777216, 64 << 20
 
@@ -50,16 +53,11 @@ def swapping(folder, elsewhere, names, go):
 
 def spent(program, words, size):
     """Runs a command, which must take no longer and no more memory than it may for files of this size: what `run` gives of it."""
-    with tempfile.TemporaryFile() as out, tempfile.TemporaryFile() as told:
-        started = subprocess.Popen([program, *words], stdin=subprocess.DEVNULL, stdout=out, stderr=told)
-        _, status, used = os.wait4(started.pid, 0)
-        started.returncode = os.waitstatus_to_exitcode(status)
-        out.seek(0)
-        told.seek(0)
-        seconds, most = used.ru_utime + used.ru_stime, 3 * size + BYTES
-        must(seconds < SECONDS, f"{words}: it took {seconds:.2f} s")
-        must(used.ru_maxrss * 1024 < most, f"{words}: it took {used.ru_maxrss >> 10} MiB, where its files have {size >> 20}")
-        return started.returncode, out.read(), told.read().decode(errors="replace")
+    with tempfile.TemporaryDirectory() as folder:
+        took = Measure(folder).run([program, *words], MOST)
+    must(took.seconds < SECONDS, f"{words}: it took {took.seconds:.2f} s")
+    must(took.memory << 10 < 3 * size + BYTES, f"{words}: it took {took.memory >> 10} MiB, where its files have {size >> 20}")
+    return took.status, took.output, took.told.decode(errors="replace")
 
 
 def four(number):

@@ -9,15 +9,17 @@ import re
 import resource
 import subprocess
 import tempfile
-import time
 
 from checks.fork_questions import Difference
 from checks.kept import DATA, apple, apple_single
 from checks.replaced import Bench
+from measured import Measure
 from places import TOP
 
 SAMPLE = os.path.join(TOP, "crates/resfork/data/sample.rsrc")
 NOBODY = 65534
+# the bytes that a refusal of a long file may take; and that a program gets at most
+BYTES, MOST = 64 << 20, 4 << 30
 MESSAGE = re.compile(r"resfork salvage (.*) -o OUT\n\Z", re.S)
 TOO_LONG = "{}: is longer than the limit of {} bytes; --limit SIZE reads more\n"
 NAMES = [
@@ -140,7 +142,7 @@ def others(room):
     must("rez over a container", room.run("rez", "text", "-o", "s\x1b")[2].split(": ")[0], '"s\\x1B"')
 
 
-def limits(room):
+def limits(room, measure):
     """Files that are longer than what is read."""
     size = len(room.read("good"))
     for limit, status in ((size, 0), (size - 1, 4)):
@@ -159,14 +161,10 @@ def limits(room):
         (["convert", "--limit", "1G", "--to", "macbinary", "--data", "sparse", "good", "new"], "good: sparse is longer than the limit of 1073741824 bytes; --limit SIZE reads more\n"),
         (["rez", "text", "-o", "sparse"], "text: sparse is longer than the limit of 1073741824 bytes; --limit SIZE reads more\n"),
     ):
-        begun = time.monotonic()
-        with subprocess.Popen([room.program, *words], cwd=room.folder, stdout=subprocess.DEVNULL, stderr=subprocess.PIPE) as run:
-            got = run.stderr.read().decode()
-            _, status, used = os.wait4(run.pid, 0)
-            run.returncode = os.waitstatus_to_exitcode(status)
-        must(f"{words}", (run.returncode, got), (4, said))
-        if used.ru_maxrss > 64 << 10 or time.monotonic() - begun > 20:
-            raise Difference(f"{words} took {used.ru_maxrss} kB and {time.monotonic() - begun:.1f} s")
+        took = measure.run([room.program, *words], MOST, cwd=room.folder)
+        must(f"{words}", (took.status, took.told.decode()), (4, said))
+        if took.memory << 10 > BYTES:
+            raise Difference(f"{words} took {took.memory} kB")
     os.remove(room.path("sparse"))
     for commands in ("get good TEXT 128", "check good", "salvage good", "show good", "unpack good dir", "put good STR 0 -i good", "rm good STR 0", "set good STR 0 --id 9", "cp good good", "diff good good", "derez good", "rez good -o new", "pack --like good dir new", "convert good new --to macbinary"):
         words = commands.split()
@@ -276,7 +274,7 @@ def main(program):
                 try_name(room, name, damaged())
             archives(room)
             others(room)
-            limits(room)
+            limits(room, Measure(folder))
             outputs(room)
             one_file(room)
             kept_forks(room, Bench(program, folder))

@@ -4,20 +4,15 @@ Two forks of 14,690 and 70,690 bytes have one list of 512 references for each of
 255 bytes: whole lists of them would have 536 MB, and 4 GB. Each command has to refuse them, or to read no more of them than one resource for
 each 12 bytes of the map, within 1 s of the processor and 64 MB. Before them come forks whose lists overlap a little, with maps of several
 lengths: with just as many references as the map has room for they are read, and with one more they are refused, and salvaged but for that one.
-The runs are counted from a process of their own, since what a run is said to take has what its parent took.
 """
 import json
 import os
 import resource
 import struct
-import subprocess
-import sys
 import tempfile
 
-if __name__ == "__main__":
-    sys.path.insert(0, os.path.dirname(os.path.dirname(os.path.abspath(__file__))))
-
 from checks.fork_questions import Difference
+from measured import Measure
 from model.fork import FORMAT, NoFork, listing, read_fork, types
 
 SECONDS, BYTES = 1, 64 << 20
@@ -46,30 +41,25 @@ def large_fork(kinds, count):
     return fork_of([count] * kinds, references, bytes([len(NAME)]) + NAME)
 
 
-def may_take():
-    """What a run may take at most; the check of what it took is stricter."""
-    resource.setrlimit(resource.RLIMIT_CPU, (10 * SECONDS, 10 * SECONDS))
-    resource.setrlimit(resource.RLIMIT_AS, (16 * BYTES, 16 * BYTES))
-    resource.setrlimit(resource.RLIMIT_FSIZE, (WRITTEN, WRITTEN))
+class Bench:
+    """The program and what counts its runs, in a folder."""
 
+    def __init__(self, program, folder):
+        self.program, self.folder, self.measure = program, folder, Measure(folder)
 
-def run(program, folder, words, given=b""):
-    """The status of a run, what it wrote and what it told, where it took no more than it may."""
-    paths = [os.path.join(folder, name) for name in ("in", "out", "told")]
-    with open(paths[0], "wb") as file:
-        file.write(given)
-    with open(paths[0], "rb") as given_file, open(paths[1], "wb") as out, open(paths[2], "wb") as told:
-        child = subprocess.Popen([program, *words], cwd=folder, stdin=given_file, stdout=out, stderr=told, preexec_fn=may_take)
-        _, status, took = os.wait4(child.pid, 0)
-        child.returncode = os.waitstatus_to_exitcode(status)
-    seconds, size = took.ru_utime + took.ru_stime, took.ru_maxrss << 10
-    texts = []
-    for path in paths[1:]:
-        with open(path, "rb") as file:
-            texts.append(file.read().decode())
-    if child.returncode < 0 or seconds > SECONDS or size > BYTES:
-        raise Difference(f"{' '.join(words)}: status {child.returncode} after {seconds:.2f} s and {size >> 20} MB, it told {texts[1][:200]!r}")
-    return child.returncode, *texts
+    def path(self, name):
+        return os.path.join(self.folder, name)
+
+    def run(self, words):
+        """The status of a run, what it wrote and what it told, where it took no more than it may. What ends it is less strict."""
+        with open(self.path("out"), "w+b") as out:
+            no_longer = lambda: resource.setrlimit(resource.RLIMIT_FSIZE, (WRITTEN, WRITTEN))
+            took = self.measure.run([self.program, *words], 16 * BYTES, 10 * SECONDS, cwd=self.folder, stdout=out, preexec_fn=no_longer)
+            out.seek(0)
+            output = out.read()
+        if took.status < 0 or took.seconds > SECONDS or took.memory << 10 > BYTES:
+            raise Difference(f"{' '.join(words)}: status {took.status} after {took.seconds:.2f} s and {took.memory >> 10} MB, it told {took.told[:200]!r}")
+        return took.status, output.decode(), took.told.decode()
 
 
 def must(holds, what):
@@ -82,16 +72,16 @@ def told_of(count, map_length):
     return f"there are {count} resources in a map of {map_length} bytes, and at most {map_length // 12} are read"
 
 
-def try_limit(program, folder, after):
+def try_limit(bench, after):
     """A fork with as many references as its map has room for, and one with one more."""
     references = b"".join(struct.pack(">hHI4x", it, 0xFFFF, 0) for it in range(20))
     for more in (0, 1):
         room = fork_of([20, 1, 1], references, bytes(after))[1] // 12
         fork, length = fork_of([20, room + more - 21, 1], references, bytes(after))
         must(room + more - 21 <= 20 and length // 12 == room, "the fork isn't at the limit")
-        with open(os.path.join(folder, "fork"), "wb") as file:
+        with open(bench.path("fork"), "wb") as file:
             file.write(fork)
-        shown, by_types = run(program, folder, ["ls", "fork"]), run(program, folder, ["ls", "--types", "fork"])
+        shown, by_types = bench.run(["ls", "fork"]), bench.run(["ls", "--types", "fork"])
         if not more:
             rows = read_fork(fork, FORMAT)
             must(len(rows) == room and shown == (0, listing(rows), ""), f"ls of {room} resources: {shown}")
@@ -107,22 +97,22 @@ def try_limit(program, folder, after):
         # all but the last, which alone is of the third type
         rows = read_fork(fork_of([20, room + more - 21], references, bytes(after + 8))[0], FORMAT)
         must(len(rows) == room, f"{len(rows)} resources are left")
-        salvaged = run(program, folder, ["salvage", "fork"])
+        salvaged = bench.run(["salvage", "fork"])
         must(salvaged == (0, listing(rows) + MORE, ""), f"salvage of {room + 1} resources: {salvaged}")
-        salvaged = run(program, folder, ["salvage", "fork", "-o", "saved"])
+        salvaged = bench.run(["salvage", "fork", "-o", "saved"])
         told = f"fork: {room} of at least {room + 1} resources can be read, and are written to saved\n"
         must(salvaged == (0, "", told), f"salvage -o of {room + 1} resources: {salvaged}")
-        saved = run(program, folder, ["ls", "saved"])
+        saved = bench.run(["ls", "saved"])
         must(saved == (0, listing(rows), ""), f"ls of what is salvaged: {saved}")
 
 
-def try_large(program, folder, kinds, count):
+def try_large(bench, kinds, count):
     """Each command on a fork of so many types that share one list."""
     fork, length = large_fork(kinds, count)
     must(len(fork) == 6690 + 8 * kinds, f"the fork has {len(fork)} bytes")
-    with open(os.path.join(folder, "fork"), "wb") as file:
+    with open(bench.path("fork"), "wb") as file:
         file.write(fork)
-    with open(os.path.join(folder, "small"), "wb") as file:
+    with open(bench.path("small"), "wb") as file:
         file.write(b"")
     most = length // 12
     told = told_of(kinds * count, length)
@@ -136,54 +126,45 @@ def try_large(program, folder, kinds, count):
         ["rm", "fork", kind, "0"], ["set", "--id", "9999", "fork", kind, "0"], ["info", "fork"],
     ]
     for words in commands:
-        status, shown, said = run(program, folder, words)
+        status, shown, said = bench.run(words)
         must((status, shown) == (3, "") and said.endswith(refused), f"{' '.join(words)}: status {status}, it wrote {shown[:200]!r} and told {said[:300]!r}")
     for words in (["ls", "--json", "fork"], ["ls", "--json", "--data", "base64", "fork"], ["info", "--json", "fork"]):
-        status, shown, _ = run(program, folder, words)
+        status, shown, _ = bench.run(words)
         line = json.loads(shown)
         must((status, line["status"]) == (3, 3) and line["error"] == error, f"{' '.join(words)}: status {status}, it wrote {shown[:200]!r}")
-    status, shown, said = run(program, folder, ["check", "fork"])
+    status, shown, said = bench.run(["check", "fork"])
     must((status, said) == (3, "") and shown.startswith(f"fault: {told}\n"), f"check: status {status}, it wrote {shown[:200]!r}")
-    status, shown, said = run(program, folder, ["check", "--json", "fork"])
+    status, shown, said = bench.run(["check", "--json", "fork"])
     must((status, json.loads(shown)["faults"]) == (3, [{"message": told, "place": None}]), f"check --json: status {status}, it wrote {shown[:200]!r}")
     for words in (["salvage", "fork"], ["salvage", "--list", "fork"]):
-        status, shown, said = run(program, folder, words)
+        status, shown, said = bench.run(words)
         lines = shown.splitlines(keepends=True)
         must((status, said, len(lines), lines[-1]) == (0, "", most + 1, MORE), f"{' '.join(words)}: status {status}, {len(lines)} lines, it told {said!r}")
     # each resource needs a name of its own in what is written, and two bytes hold no offset of the last ones
-    status, _, said = run(program, folder, ["salvage", "fork", "-o", "mended"])
-    must(status != 0 and said.startswith("fork: ") and not os.path.exists(os.path.join(folder, "mended")), f"salvage -o: status {status}, it told {said!r}")
+    status, _, said = bench.run(["salvage", "fork", "-o", "mended"])
+    must(status != 0 and said.startswith("fork: ") and not os.path.exists(bench.path("mended")), f"salvage -o: status {status}, it told {said!r}")
     for kept_as in ("applesingle", "macbinary", "binhex", "raw"):
-        status, _, said = run(program, folder, ["convert", "--to", kept_as, "fork", f"as_{kept_as}"])
+        status, _, said = bench.run(["convert", "--to", kept_as, "fork", f"as_{kept_as}"])
         must(status == 0, f"convert --to {kept_as}, which carries any fork: status {status}, it told {said!r}")
-        status, shown, said = run(program, folder, ["ls", f"as_{kept_as}"])
+        status, shown, said = bench.run(["ls", f"as_{kept_as}"])
         must((status, shown) == (3, "") and told in said, f"ls of it: status {status}, it told {said!r}")
-    with open(os.path.join(folder, "fork"), "rb") as file:
+    with open(bench.path("fork"), "rb") as file:
         must(file.read() == fork, "a command that is refused changed the file")
 
 
-def tried(program):
+def main(program):
     """Tries all forks."""
     with tempfile.TemporaryDirectory() as folder:
-        what = ""
+        bench, what = Bench(program, folder), ""
         try:
             for after in AFTER:
                 what = f"{after} bytes after the lists"
-                try_limit(program, folder, after)
+                try_limit(bench, after)
             for kinds, count in LARGE:
                 what = f"{kinds} types of {count} resources"
-                try_large(program, folder, kinds, count)
+                try_large(bench, kinds, count)
         except Difference as difference:
             print(f"{what}: {difference}")
             return 1
     print(f"{2 * len(AFTER)} forks at the limit, and {len(LARGE)} forks whose lists are far past it")
     return 0
-
-
-def main(program):
-    """Tries all forks from a process of its own."""
-    return subprocess.run([sys.executable, os.path.abspath(__file__), os.path.abspath(program)], check=False).returncode
-
-
-if __name__ == "__main__":
-    sys.exit(tried(sys.argv[1]))

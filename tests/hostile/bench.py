@@ -13,13 +13,14 @@ import time
 
 from checks.salvage import written
 from model.fork import Row
+from measured import HANG, Measure
 from places import INTERPOSE
 
 # users and groups that this machine needn't know: a program runs as one of them, a file belongs to another, and a third has nothing to do with it
 OWNER, OTHER, STRANGER = 12001, 12002, 12003
 RACES = 250
-# after so many seconds of processor time a program is ended, and counts as hanging; and after so many if it waits
-HANG, WAITS = 20, 120
+# after so many seconds a program that waits is ended, and counts as hanging
+WAITS = 120
 # the most memory that a program gets that is measured, so that none takes that of the machine
 MOST = 4 << 30
 IS_ROOT = os.getuid() == 0
@@ -61,11 +62,9 @@ class Bench:
         self.folder = folder
         os.chmod(folder, 0o755)
         self.resfork, self.macheap = (shutil.copy(program, os.path.join(folder, name)) for program, name in ((resfork, "resfork"), (macheap, "macheap")))
-        self.measure, self.shim = os.path.join(folder, "measure"), os.path.join(folder, "replace.so")
-        compiler = os.environ.get("CC", "cc")
-        subprocess.run([compiler, "-O1", "-o", self.measure, os.path.join(INTERPOSE, "measure.c")], check=True)
-        subprocess.run([compiler, "-O1", "-shared", "-fPIC", "-o", self.shim, os.path.join(INTERPOSE, "fail_replace.c"), "-ldl"], check=True)
-        for path in (self.resfork, self.macheap, self.measure, self.shim):
+        self.measure, self.shim = Measure(folder), os.path.join(folder, "replace.so")
+        subprocess.run([os.environ.get("CC", "cc"), "-O1", "-shared", "-fPIC", "-o", self.shim, os.path.join(INTERPOSE, "fail_replace.c"), "-ldl"], check=True)
+        for path in (self.resfork, self.macheap, self.shim):
             os.chmod(path, 0o755)
         self.most = MOST
         if self.measured(["--version"], folder).status != 0:
@@ -82,13 +81,7 @@ class Bench:
 
     def measured(self, words, cwd, seconds=HANG, **how):
         """Runs resfork, and measures what it takes. `how` is what subprocess takes."""
-        how = {"stdin": subprocess.DEVNULL, "stdout": subprocess.PIPE, "stderr": subprocess.PIPE, **how}
-        with tempfile.TemporaryFile() as line:
-            start = [self.measure, str(line.fileno()), str(seconds), str(self.most), self.resfork]
-            done = subprocess.run([*start, *words], cwd=cwd, check=False, pass_fds=[line.fileno()], **how)
-            line.seek(0)
-            status, milliseconds, memory = map(int, line.read().split())
-        return Took(os.waitstatus_to_exitcode(status), done.stdout or b"", done.stderr, milliseconds / 1000, memory)
+        return Took(*self.measure.run([self.resfork, *words], self.most, seconds, cwd=cwd, **how))
 
     def shimmed(self, words, cwd, given=b"", settings=(), **how):
         """Runs resfork over the shim of tests/interpose/fail_replace.c. The result is what it did, and the letters of its calls."""
