@@ -18,8 +18,10 @@ if __name__ == "__main__":
     sys.path.insert(0, os.path.dirname(os.path.dirname(os.path.abspath(__file__))))
 
 from checks.fork_questions import Difference
+from hostile.bench import slowness
 from model.fork import FORMAT, NoFork, listing, read_fork, types
 
+# seconds of a machine that is as fast as usual, and bytes
 SECONDS, BYTES = 1, 64 << 20
 # no run may write more to a file than this
 WRITTEN = 8 << 20
@@ -67,7 +69,7 @@ def run(program, folder, words, given=b""):
     for path in paths[1:]:
         with open(path, "rb") as file:
             texts.append(file.read().decode())
-    if child.returncode < 0 or seconds > SECONDS or size > BYTES:
+    if child.returncode < 0 or size > BYTES or seconds > SECONDS and seconds > SECONDS * slowness():
         raise Difference(f"{' '.join(words)}: status {child.returncode} after {seconds:.2f} s and {size >> 20} MB, it told {texts[1][:200]!r}")
     return child.returncode, *texts
 
