@@ -4,6 +4,7 @@ process had before it became that program, and these checks may have much. Needs
 import os
 import subprocess
 import tempfile
+import time
 from typing import NamedTuple
 
 from places import INTERPOSE
@@ -39,3 +40,12 @@ class Measure:
             line.seek(0)
             status, milliseconds, memory = map(int, line.read().split())
         return Run(os.waitstatus_to_exitcode(status), done.stdout or b"", done.stderr or b"", milliseconds / 1000, memory)
+
+
+def slowness():
+    """How much slower than usual this machine is now: 1 or more."""
+    start = time.process_time()
+    total = 0
+    for number in range(1_000_000):
+        total += number * number % 7
+    return max(1.0, (time.process_time() - start) / 0.1)

@@ -16,7 +16,7 @@ import tempfile
 from checks.fork_questions import Difference
 from checks.forks import compare, run
 from checks.shown import fork_of, must, write
-from measured import Measure
+from measured import Measure, slowness
 from model.fork import Row
 
 # a user other than the one who runs the checks, and the seconds and the bytes that a command may take besides three times its file
@@ -55,7 +55,7 @@ def spent(program, words, size):
     """Runs a command, which must take no longer and no more memory than it may for files of this size: what `run` gives of it."""
     with tempfile.TemporaryDirectory() as folder:
         took = Measure(folder).run([program, *words], MOST)
-    must(took.seconds < SECONDS, f"{words}: it took {took.seconds:.2f} s")
+    must(took.seconds < SECONDS or took.seconds < SECONDS * slowness(), f"{words}: it took {took.seconds:.2f} s")
     must(took.memory << 10 < 3 * size + BYTES, f"{words}: it took {took.memory >> 10} MiB, where its files have {size >> 20}")
     return took.status, took.output, took.told.decode(errors="replace")
 

@@ -12,9 +12,10 @@ import struct
 import tempfile
 
 from checks.fork_questions import Difference
-from measured import Measure
+from measured import Measure, slowness
 from model.fork import FORMAT, NoFork, listing, read_fork, types
 
+# seconds of a machine that is as fast as usual, and bytes
 SECONDS, BYTES = 1, 64 << 20
 # no run may write more to a file than this
 WRITTEN = 8 << 20
@@ -57,7 +58,7 @@ class Bench:
             took = self.measure.run([self.program, *words], 16 * BYTES, 10 * SECONDS, cwd=self.folder, stdout=out, preexec_fn=no_longer)
             out.seek(0)
             output = out.read()
-        if took.status < 0 or took.seconds > SECONDS or took.memory << 10 > BYTES:
+        if took.status < 0 or took.memory << 10 > BYTES or took.seconds > SECONDS and took.seconds > SECONDS * slowness():
             raise Difference(f"{' '.join(words)}: status {took.status} after {took.seconds:.2f} s and {took.memory >> 10} MB, it told {took.told[:200]!r}")
         return took.status, output.decode(), took.told.decode()
 

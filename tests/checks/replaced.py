@@ -7,6 +7,7 @@ at most, and the next change removes it. A link stays a link, the mode and the o
 a file that another program puts at the path meanwhile isn't replaced, and where nothing changes no file is made. Needs a C compiler: `cc`, or $CC.
 """
 import fcntl
+import functools
 import os
 import resource
 import shutil
@@ -46,6 +47,7 @@ class Run:
             for name, data in job.files.items():
                 with open(os.path.join(folder, name), "wb") as file:
                     file.write(data)
+                os.chmod(file.name, 0o644)
             self.said = ready(folder) if ready else None
             log = os.path.join(bench.folder, "log")
             with open(log, "wb"):
@@ -121,6 +123,20 @@ class Bench:
             os.chmod(path, 0o755)
         return path
 
+    @functools.cached_property
+    def no_users(self):
+        """Why the program can't be run as another user, or files be given to one; or None."""
+        if os.getuid() != 0:
+            return "only root has other users"
+        try:
+            os.chown(self.shim, STRANGER, STRANGER + 1)
+            subprocess.run([self.public(), "--version"], user=STRANGER, group=STRANGER, extra_groups=[], stdout=subprocess.DEVNULL, check=True)
+        except (OSError, subprocess.CalledProcessError) as error:
+            return str(error)
+        finally:
+            os.chown(self.shim, 0, 0)
+        return None
+
     def swept(self, job):
         """Each call fails in turn, and so do all from it on; before each the program is ended; each write is made in two parts."""
         whole = Run(self, job)
@@ -184,7 +200,7 @@ class Bench:
 
     def owned(self, job):
         """The owner stays where the program may give the file away, and else nobody gets more than before."""
-        if os.getuid() != 0:
+        if self.no_users:
             return
         for mode in (0o640, 0o4711, 0o2755):
 
@@ -313,6 +329,8 @@ def told(bench, jobs, same, streams):
         failures += [f"{what}: {fault}"] if fault else []
     for it in failures:
         print(it)
+    if bench.no_users:
+        print(f"replaced: other users' files aren't tried: {bench.no_users}")
     print(f"replaced: {count - len(failures)} runs as they should be, {len(failures)} not")
     return 1 if failures or not count else 0
 

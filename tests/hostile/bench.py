@@ -195,12 +195,3 @@ def beside(step, user=None):
 def pause(most):
     """Waits for up to so many seconds, by chance."""
     time.sleep(random.random() * most)
-
-
-def slowness():
-    """How much slower than usual this machine is now: 1 or more."""
-    start = time.process_time()
-    total = 0
-    for number in range(1_000_000):
-        total += number * number % 7
-    return max(1.0, (time.process_time() - start) / 0.1)

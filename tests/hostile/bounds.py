@@ -6,7 +6,8 @@ import os
 import struct
 
 from checks.kept import KEPT
-from hostile.bench import GAME, MOST, read, room, slowness, write
+from hostile.bench import GAME, MOST, read, room, write
+from measured import slowness
 from model.contents import DIGITS
 from model.container import resource_fork
 from model.fork import read_fork

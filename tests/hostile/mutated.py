@@ -11,7 +11,8 @@ import random
 import shutil
 import tempfile
 
-from hostile.bench import GAME, slowness, write
+from hostile.bench import GAME, write
+from measured import slowness
 from hostile.bounds import CONTAINERS, manifest, ready
 from model.mutations import changed, corpus, mutation, some_resource
 

@@ -26,16 +26,17 @@ coded character =
     then 92 ∷ 120 ∷ (digits 16 true (character / 16) ++ digits 16 true (character % 16))
     else 92 ∷ 117 ∷ 123 ∷ (digits 16 true character ++ 125 ∷ [])
 
--- a character between double quotes: a quote and a backslash have a backslash before them
-abbrev pub escaped : ℕ → List ℕ
-escaped character =
-    if character == 34 || character == 92 then 92 ∷ encode_utf8 character
-    else if is_harmful character then coded character
-    else encode_utf8 character
+-- a character of a text of one line
+abbrev pub in_line : ℕ → List ℕ
+in_line character = if is_harmful character then coded character else encode_utf8 character
 
 -- a character of a text that may have several lines
 abbrev pub tamed : ℕ → List ℕ
-tamed character = if is_harmful character && not (character == 10) then coded character else encode_utf8 character
+tamed character = if character == 10 then encode_utf8 character else in_line character
+
+-- a character between double quotes: a quote and a backslash have a backslash before them
+abbrev pub escaped : ℕ → List ℕ
+escaped character = if character == 34 || character == 92 then 92 ∷ encode_utf8 character else in_line character
 
 -- a name in a message: as it is, or between double quotes
 abbrev pub shown_name : List ℕ → List ℕ

@@ -2,12 +2,15 @@
 //! name it is.
 #![tactic(auto)]
 
+mod characters;
 mod file_name;
 mod harm;
 mod lines;
+mod pieces;
 mod shell_word;
 
-pub use file_name::FileName;
+pub use file_name::{FileName, is_plain};
 pub use harm::is_harmful;
-pub use lines::Lines;
+pub use lines::{Line, Lines};
+pub use pieces::{Pieces, quoted};
 pub use shell_word::ShellWord;

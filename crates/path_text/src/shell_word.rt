@@ -2,9 +2,9 @@
 
 ghost use Rattle.std.specs.Prelude.{◌≡◌, Some};
 ghost use Rattle.std.specs.List.{flat_map, list_all};
-ghost use Rattle.std.specs.Str.{chars};
-ghost use Rattle.path_text.specs.ShellWords.{begins_word, is_bare, is_bare_word, is_shown, octal, prefix, shell_word, single};
+ghost use Rattle.path_text.specs.ShellWords.{begins_word, is_bare, is_bare_word, is_shown, octal, prefix, shell_word};
 
+use crate::characters::{Characters, Way};
 use crate::harm::has_harmful;
 use std::fmt;
 
@@ -82,39 +82,6 @@ impl fmt::Display for Coded<'_> {
     }
 }
 
-/// A character between single quotes.
-#[derive(Clone, Copy)]
-struct Single(char);
-
-impl fmt::Display for Single {
-    ghost output = { λ s. Some (single s.0) };
-
-    fn fmt<W: fmt::Write>(&self, f: &mut fmt::Formatter<W>) -> fmt::Result {
-        let character = self.0;
-        if character == '\'' {
-            write!(f, "'\\''")
-        } else {
-            write!(f, "{character}")
-        }
-    }
-}
-
-/// The characters of a name between single quotes.
-#[derive(Clone, Copy)]
-struct Singles<'a>(&'a str);
-
-impl fmt::Display for Singles<'_> {
-    ghost output = { λ s. Some (flat_map single (chars s.0.now)) };
-
-    fn fmt<W: fmt::Write>(&self, f: &mut fmt::Formatter<W>) -> fmt::Result {
-        for character in self.0.chars() {
-            let shown = Single(character);
-            write!(f, "{shown}")?;
-        }
-        Ok(())
-    }
-}
-
 /// What is before a name that begins with a hyphen.
 fn prefix(name: &str) -> &'static str
     ensures { result.now ≡ prefix name.now }
@@ -144,7 +111,10 @@ impl fmt::Display for ShellWord<'_> {
         } else if is_bare_word(name.as_bytes()) {
             write!(f, "{prefix}{name}")
         } else {
-            let singles = Singles(name);
+            let singles = Characters {
+                way: Way::Single,
+                text: name,
+            };
             write!(f, "{prefix}'{singles}'")
         }
     }

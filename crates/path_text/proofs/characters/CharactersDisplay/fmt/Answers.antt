@@ -2,8 +2,8 @@ use Rattle.std.proofs.Common.{rules, ◌++◌, ◌∙◌, sym, refl, true, [], a
 use Rattle.std.proofs.Output.{has_written_append, has_written_of_eq, writes_in_calls_nil}
 use Rattle.std.proofs.lemmas.Str.{IsUtf8-past_char, chars_past_char}
 use Rattle.std.proofs.StrCases.{chars_of_empty}
-use Rattle.path_text.specs.ShellWords.{single}
-use Rattle.path_text.proofs.shell_word.SinglesDisplay.fmt.Goals as goal
+use Rattle.path_text.specs.Ways.{shown_by}
+use Rattle.path_text.proofs.characters.CharactersDisplay.fmt.Goals as goal
 
 pub loop-character-init : goal.loop-character-init
 loop-character-init g c = (search rules, λ plain. ([], record { wrote = writes_in_calls_nil _ _; plain = plain }, (cc)))
@@ -16,9 +16,9 @@ loop-character-preserved g c =
       IsUtf8-past_char _ _ c.in-Some.character held.0 parts,
       λ plain.
           let so_far = held.1 plain in (
-            so_far.0 ++ single c.in-Some.character,
+            so_far.0 ++ shown_by c.args.self.now.way c.in-Some.character,
             has_written_append _ _ _ _ _ _ so_far.1 (c.in_ok-write.ensures.writes so_far.1.plain (refl {a = true})),
-            append_assoc so_far.0 (single c.in-Some.character) _ ∙ (rw step at so_far.2),
+            append_assoc so_far.0 (shown_by c.args.self.now.way c.in-Some.character) _ ∙ (rw step at so_far.2),
           ),
     )
 
