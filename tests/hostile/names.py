@@ -5,6 +5,7 @@ import os
 import re
 import subprocess
 
+from checks.names import shown
 from checks.salvage import written
 from hostile.bench import GAME, room, write
 from hostile.bounds import manifest
@@ -153,6 +154,26 @@ def in_manifests(bench):
                 yield f"pack of a manifest that names {file!r}", fault
 
 
+def macheap_says(bench):
+    """The other program quotes a file that it can't open in the same way."""
+    for name in (FIRST + LAST, *(FIRST + bad + LAST for bad in BAD), *TYPED, f" {FIRST}", f"{LAST} ", f'"{FIRST}'):
+        for words, path in ((["--fork", name], name), (["--fork", f"{name}/x"], f"{name}/x"), (["--fork", "fork", "--journal", f"{name}/x"], f"{name}/x")):
+            with room() as folder:
+                if path == name:
+                    os.mkdir(os.path.join(folder, name))
+                took = bench.run(words, folder, program=bench.macheap)
+                why = "it is a folder; name a file" if path == name else "there is no such folder; make it first"
+                fault = took.says(1) or (None if took.told == f"cannot open {shown(path)}: {why}\n" else f"it says {took.told!r}")
+                yield f"macheap of {path!r}", fault
+
+
+def macheap_words(bench):
+    """And a word that is no option of its own."""
+    for bad in BAD:
+        took = bench.run([f"--{FIRST}{bad}{LAST}"], bench.folder, program=bench.macheap)
+        yield f"macheap --{FIRST}{bad}{LAST}", took.says(2) or (f"it says {took.told!r}" if RAW.search(took.told) or FIRST not in took.told else None)
+
+
 def words_typed(advice, folder):
     """The words of a line that is typed into a shell, where each command is one that prints its words."""
     command = advice.split()[0]
@@ -181,5 +202,5 @@ def typed(bench):
 
 
 def rows(bench):
-    for some in (quoted, as_json, in_manifests, typed):
+    for some in (quoted, as_json, in_manifests, macheap_says, macheap_words, typed):
         yield from some(bench)
