@@ -75,10 +75,10 @@ def commands(name):
     yield ["get", "Game", "TEXT", "128", "-o", f"{name}/x"], None
     yield ["salvage", name, "-o", name + "x"], damaged()
     yield ["show", name], text
-    if "\n" not in name:
-        # (a text of several lines is shown with them)
-        yield ["unpack", "Game", name], GAME
-        yield ["ls", "--" + name], None
+    yield ["unpack", "Game", name], GAME
+    yield ["ls", "--" + name], None
+    yield ["ls", "Game", "-" + name], None
+    yield [name], None
     yield ["unpack", name, "folder"], GAME
     yield ["put", name, "TEXT", "1"], None
     yield ["put", "Game", "TEXT", "1", "-i", name], None
@@ -145,7 +145,7 @@ def as_json(bench):
 def in_manifests(bench):
     """A file that a manifest names comes out quoted too."""
     for bad in BAD:
-        for file in (f"TEXT/{FIRST}{bad}{LAST}", *([f"../{FIRST}{bad}{LAST}"] if bad != "\n" else [])):
+        for file in (f"TEXT/{FIRST}{bad}{LAST}", f"../{FIRST}{bad}{LAST}"):
             with room() as folder:
                 entry = {"type": "TEXT", "id": 1, "name": None, "attributes": 0, "file": file}
                 write(manifest([entry]), folder, "resources.json")
