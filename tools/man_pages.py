@@ -23,11 +23,11 @@ QUOTE = re.compile(r"^```text \S+\n(.*?)^```$", re.M | re.S)
 COLUMNS = 70
 # the exit statuses of macheap: what happened, what both outputs have then, the status
 STATUSES = [
-    ("all lines were run; or help was asked for", "their replies; or a help text", "nothing", 0),
+    ("all lines were run; or help was asked for", "their replies; or the help", "nothing", 0),
     ("the host refused memory", "the replies so far, and the line `no memory`", "nothing", 1),
     ("reading the script failed, or was interrupted", "nothing", "nothing", 1),
     ("writing failed, was interrupted, or took no byte", "the replies so far, the last perhaps in part", "nothing", 1),
-    ("a file can't be opened or made, or another program is at work on it", "nothing", "which file, why, and what to do", 1),
+    ("a file can't be opened or made, or another program is at work on it", "nothing", "which file, written as by resfork(1), why, and what to do", 1),
     ("the command line has a mistake", "nothing", "a message", 2),
     ("the script has a fault", "the line `script fault at line N`", "what is wrong in that line", 3),
 ]
@@ -87,7 +87,7 @@ def program():
     made += [".SH OPTIONS"]
     for name, value, said in options():
         made += [".TP", f'.BI \\-\\-{name} " {value}"' if value else f".B \\-\\-{name}", words(said) + "."]
-    made += [".TP", ".BR \\-h \", \" \\-\\-help", "Prints a help text, and runs nothing.", ".SH EXIT STATUS"]
+    made += [".TP", ".BR \\-h \", \" \\-\\-help", "Prints help, and runs nothing.", ".SH EXIT STATUS"]
     for what, output, message, status in STATUSES:
         made += [".TP", f".B {status}", words(f"{what[0].upper()}{what[1:]}. Standard output: {output}. Standard error: {message}.")]
     made += [".SH EXAMPLES", "After three lines of comment, the script", code(script), "prints", code(printed)]

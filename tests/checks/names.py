@@ -5,6 +5,7 @@ can be typed is given to bash, which reads back the same bytes. `--limit` refuse
 output ends by a message where a file may not be so long. `convert --data` keeps both forks whatever fails, and refuses one file by two paths. What this
 machine doesn't let a program try is left out, and it says so. Needs a C compiler: `cc`, or $CC; and bash.
 """
+import json
 import os
 import re
 import resource
@@ -12,7 +13,7 @@ import subprocess
 import tempfile
 
 from checks.fork_questions import Difference
-from checks.kept import DATA, apple, apple_single
+from checks.kept import DATA, apple, apple_single, bin_hex
 from checks.replaced import Bench
 from measured import Measure
 from places import TOP
@@ -86,6 +87,12 @@ def must(what, got, wanted):
         raise Difference(f"{what}:\n  {got!r}\n  where the model has\n  {wanted!r}")
 
 
+def manifest(*files):
+    """What `unpack` writes of resources in these files."""
+    entries = [{"type": "TEXT", "id": it, "name": None, "attributes": 0, "file": file} for it, file in enumerate(files)]
+    return json.dumps({"extra": "00" * 240, "map_attributes": 0, "resources": entries}).encode()
+
+
 def damaged():
     """The sample, with a byte changed, so that three of four resources can be read."""
     with open(SAMPLE, "rb") as file:
@@ -141,6 +148,26 @@ def others(room):
     with open(room.path("text"), "wb") as text:
         room.run("derez", "good", stdout=text)
     must("rez over a container", room.run("rez", "text", "-o", "s\x1b")[2].split(": ")[0], '"s\\x1B"')
+    must("a folder with files", room.run("unpack", "good", "f\x1b")[2], 'good: not unpacked: there are files in "f\\x1B", and nothing is overwritten; name a new folder\n')
+    must("no folder", room.run("unpack", "good", "n\n/x")[2], 'good: not unpacked: the folder "n\\x0A/x" can\'t be made: No such file or directory (os error 2)\n')
+    room.write("f\x1b/resources.json", manifest("../a\nb"))
+    must("an entry", room.run("pack", "f\x1b", "out")[2], '"f\\x1B": what it says of the resource in "../a\\x0Ab" is bad: its file isn\'t one in a folder of the folder\n')
+    room.write("f\x1b/resources.json", manifest("TEXT/a\nb"))
+    must("no file", room.run("pack", "f\x1b", "out")[2], '"f\\x1B": "f\\x1B/TEXT/a\\x0Ab" can\'t be read: No such file or directory (os error 2)\n')
+    room.write("f\x1b/resources.json", manifest())
+    text = bin_hex(room.read("good"))
+    room.write("cut\x1b", text[: len(text) // 2])
+    said = room.run("pack", "--like", "cut\x1b", "f\x1b", "out")
+    must("a text that is cut", (said[0], said[2].split(": ")[:2]), (4, ['"cut\\x1B"', "not written"]))
+
+
+def words(room):
+    """Bad words in messages, of which no line ends within a word."""
+    for what, before, start in (("an option", ["ls"], "--qq"), ("an option with a value", ["ls"], "--qq=q"), ("a command", [], "qq"), ("an operand", ["salvage", "a"], "qq")):
+        plain = room.run(*before, f"{start}\u03a9qq")
+        must(f"{what} that is wrong", (plain[0], "qq" in plain[2]), (2, True))
+        for letter in filter(is_harmful, map(chr, [*range(1, 0x20), *range(0x7F, 0xA0), 0x61C, 0x2028, 0x202E, 0x2066, 0xFEFF])):
+            must(f"{what} with {letter!r}", room.run(*before, f"{start}{letter}qq"), (2, "", plain[2].replace("\u03a9", letter_shown(letter))))
 
 
 def sparse(room):
@@ -298,6 +325,7 @@ def main(program):
                 try_name(room, name, damaged())
             archives(room)
             others(room)
+            words(room)
             limits(room, Measure(folder))
             outputs(room)
             one_file(room)

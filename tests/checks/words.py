@@ -123,7 +123,7 @@ IS_FOLDER, NO_FOLDER = "it is a folder; name a file", "there is no such folder; 
 TWICE = "a word before it names the same file; name another file"
 CANNOT_OPEN = [
     ("--fork @/folder", "@/folder", IS_FOLDER, []),
-    ("--fork=", "", NO_FOLDER, []),
+    ("--fork=", '""', NO_FOLDER, []),
     ("--fork @/missing/new", "@/missing/new", NO_FOLDER, []),
     ("--fork @/old/new", "@/old/new", NO_FOLDER, []),
     ("--fork @/folder --fork @/new", "@/folder", IS_FOLDER, []),
@@ -136,6 +136,16 @@ CANNOT_OPEN = [
     ("--fork @/a --fork @/b --journal @/j --journal @/j", "@/j", TWICE, ["a", "b", "j"]),
     ("--fork @/a --fork @/a --journal @/j --journal @/k", "@/a", TWICE, ["a"]),
     ("--journal @/k --journal @/a --fork @/a --fork @/b", "@/a", TWICE, ["a", "b", "k"]),
+    # names that a terminal obeys, or doesn't show, are between quotes, and others aren't
+    ('--fork @/"a\\b"/new', '@/"a\\b"/new', NO_FOLDER, []),
+    ("--fork @/\u00e9\u65e5/new", "@/\u00e9\u65e5/new", NO_FOLDER, []),
+    ("--fork @/a\x1b[31m/new", '"@/a\\x1B[31m/new"', NO_FOLDER, []),
+    ("--fork @/a\x01\x7f/new", '"@/a\\x01\\x7F/new"', NO_FOLDER, []),
+    ("--fork @/a\x80\x9f/new", '"@/a\\u{80}\\u{9F}/new"', NO_FOLDER, []),
+    ("--fork @/a\u061c\ufeff/new", '"@/a\\u{61C}\\u{FEFF}/new"', NO_FOLDER, []),
+    ("--fork @/\u202egpj/new", '"@/\\u{202E}gpj/new"', NO_FOLDER, []),
+    ('--fork @/"a\\b"\u00e9\x1b/new', '"@/\\"a\\\\b\\"\u00e9\\x1B/new"', NO_FOLDER, []),
+    ("--fork @/new --journal @/a\x1b/new", '"@/a\\x1B/new"', NO_FOLDER, ["new"]),
     # names in this folder are longer than the system takes
     (f"--fork @/{'n' * 300}", f"@/{'n' * 300}", "the system refuses it; name another file", []),
 ]

@@ -5,6 +5,7 @@ import os
 import re
 import subprocess
 
+from checks.names import shown
 from checks.salvage import written
 from hostile.bench import GAME, room, write
 from hostile.bounds import manifest
@@ -74,10 +75,10 @@ def commands(name):
     yield ["get", "Game", "TEXT", "128", "-o", f"{name}/x"], None
     yield ["salvage", name, "-o", name + "x"], damaged()
     yield ["show", name], text
-    if "\n" not in name:
-        # (a text of several lines is shown with them)
-        yield ["unpack", "Game", name], GAME
-        yield ["ls", "--" + name], None
+    yield ["unpack", "Game", name], GAME
+    yield ["ls", "--" + name], None
+    yield ["ls", "Game", "-" + name], None
+    yield [name], None
     yield ["unpack", name, "folder"], GAME
     yield ["put", name, "TEXT", "1"], None
     yield ["put", "Game", "TEXT", "1", "-i", name], None
@@ -144,13 +145,33 @@ def as_json(bench):
 def in_manifests(bench):
     """A file that a manifest names comes out quoted too."""
     for bad in BAD:
-        for file in (f"TEXT/{FIRST}{bad}{LAST}", *([f"../{FIRST}{bad}{LAST}"] if bad != "\n" else [])):
+        for file in (f"TEXT/{FIRST}{bad}{LAST}", f"../{FIRST}{bad}{LAST}"):
             with room() as folder:
                 entry = {"type": "TEXT", "id": 1, "name": None, "attributes": 0, "file": file}
                 write(manifest([entry]), folder, "resources.json")
                 took = bench.run(["pack", ".", "out"], folder)
                 fault = took.says(3, 4) or (f"it wrote {took.told!r}" if RAW.search(took.told) or took.told.count("\n") != 1 else None)
                 yield f"pack of a manifest that names {file!r}", fault
+
+
+def macheap_says(bench):
+    """The other program quotes a file that it can't open in the same way."""
+    for name in (FIRST + LAST, *(FIRST + bad + LAST for bad in BAD), *TYPED, f" {FIRST}", f"{LAST} ", f'"{FIRST}'):
+        for words, path in ((["--fork", name], name), (["--fork", f"{name}/x"], f"{name}/x"), (["--fork", "fork", "--journal", f"{name}/x"], f"{name}/x")):
+            with room() as folder:
+                if path == name:
+                    os.mkdir(os.path.join(folder, name))
+                took = bench.run(words, folder, program=bench.macheap)
+                why = "it is a folder; name a file" if path == name else "there is no such folder; make it first"
+                fault = took.says(1) or (None if took.told == f"cannot open {shown(path)}: {why}\n" else f"it says {took.told!r}")
+                yield f"macheap of {path!r}", fault
+
+
+def macheap_words(bench):
+    """And a word that is no option of its own."""
+    for bad in BAD:
+        took = bench.run([f"--{FIRST}{bad}{LAST}"], bench.folder, program=bench.macheap)
+        yield f"macheap --{FIRST}{bad}{LAST}", took.says(2) or (f"it says {took.told!r}" if RAW.search(took.told) or FIRST not in took.told else None)
 
 
 def words_typed(advice, folder):
@@ -181,5 +202,5 @@ def typed(bench):
 
 
 def rows(bench):
-    for some in (quoted, as_json, in_manifests, typed):
+    for some in (quoted, as_json, in_manifests, macheap_says, macheap_words, typed):
         yield from some(bench)

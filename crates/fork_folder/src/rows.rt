@@ -6,6 +6,7 @@ ghost use Rattle.fork_folder.specs.Packed.{Answers, Fails, folder_of, listed, pa
 use fork_bytes::table::{Contents, Row, Rows};
 use mac_base::name::Name;
 use mac_base::resource::{ResAttrs, ResType, Resource};
+use path_text::FileName;
 use std::alloc::{AllocError, AllocFailed, Global};
 use std::collections::BTreeMap;
 use thiserror::Error;
@@ -42,13 +43,13 @@ pub enum PackFault {
     #[error("it isn't what unpack writes: {0}")]
     BadManifest(String),
     /// What it says of the resource in this file isn't so of any.
-    #[error("what it says of the resource in {file} is bad: {what}")]
+    #[error("what it says of the resource in {path} is bad: {what}", path = FileName(.file.as_str()))]
     BadEntry { file: String, what: Flaw },
     /// What it says of the 240 extra bytes are none.
     #[error("`extra`, of 480 hexadecimal digits, is bad")]
     BadExtra,
     /// The file of this path, which the manifest names, isn't there.
-    #[error("the manifest names {0}, which isn't there")]
+    #[error("the manifest names {path}, which isn't there", path = FileName(.0.as_str()))]
     NoFile(String),
     /// The host has no memory.
     #[error("the host has no memory")]

@@ -11,6 +11,7 @@ use fork_bytes::table::Table;
 use fork_folder::files::File as Unpacked;
 use fork_folder::unpacked;
 use mac_base::resource::ResType;
+use path_text::FileName;
 use std::alloc::{AllocError, Global};
 use std::io;
 use thiserror::Error;
@@ -30,19 +31,19 @@ pub struct Unpacking<'a> {
 #[derive(Debug, Drop, Error)]
 pub enum NotUnpacked {
     /// There is a folder, and it isn't empty.
-    #[error("not unpacked: there are files in {0}, and nothing is overwritten; name a new folder")]
+    #[error("not unpacked: there are files in {folder}, and nothing is overwritten; name a new folder", folder = FileName(.0.as_str()))]
     NotEmpty(String),
     /// There is a folder of another user, and others than its owner may write there.
-    #[error("not unpacked: {0} belongs to another user, and others may write there; name a new folder")]
+    #[error("not unpacked: {folder} belongs to another user, and others may write there; name a new folder", folder = FileName(.0.as_str()))]
     Shared(String),
     /// There is no `/proc` as Linux has it.
     #[error("not unpacked: /proc, by which all is made in the folder that is open, isn't there: {0}")]
     NoProc(io::Error),
     /// A folder can't be made, or not be looked into.
-    #[error("not unpacked: the folder {folder} can't be made: {error}")]
+    #[error("not unpacked: the folder {path} can't be made: {error}", path = FileName(.folder.as_str()))]
     NoFolder { folder: String, error: io::Error },
     /// A file can't be written.
-    #[error("not all is unpacked: {file} can't be written: {error}")]
+    #[error("not all is unpacked: {path} can't be written: {error}", path = FileName(.file.as_str()))]
     NoFile { file: String, error: io::Error },
     /// The host has no memory.
     #[error("the host has no memory")]

@@ -6,3 +6,4 @@ pub mod Stores
 pub mod Options
 pub mod Asking
 pub mod Program
+pub mod Saying

@@ -5,6 +5,7 @@ use Rattle.clap.specs.Words.{Text}
 use Rattle.fork_disk.specs.declared.store.ForkStore.{Ghosts}
 use Rattle.mac_base.specs.ZoneSizes.{ZoneSizes}
 use Rattle.mac_base.specs.declared.zone_spec.BadSpec.{BadSpec}
+use Rattle.path_text.specs.FileNames.{shown_name}
 use Rattle.script_run.specs.declared.end.RunEnd.{RunEnd}
 use Rattle.script_run.specs.declared.end.RunEnd.TheVariants.{Finished, ScriptFault, NoMemory, ReadFault, WriteFault}
 use Rattle.script_run.specs.Counting.{Counting, Gave, RoseByOne, Took}
@@ -117,7 +118,7 @@ Refuses other told = TellsBadWords told
 
 -- what is reported where the file of this path can't be opened for this reason
 abbrev pub cannot_open_text : Text → NotOpened → List ℕ
-cannot_open_text path reason_of = codes "cannot open " ++ path ++ reason reason_of
+cannot_open_text path reason_of = codes "cannot open " ++ shown_name path ++ reason reason_of
 
 -- A message says that this file can't be opened, and why, and nothing was written.
 pub record TellsCannotOpen (path : Text) (reason_of : NotOpened) (told : Told) : Type 0 where

@@ -6,6 +6,7 @@ mod asked;
 mod claimed;
 mod disk;
 mod files;
+mod name;
 mod opened;
 mod program;
 mod stores;

@@ -9,15 +9,17 @@ ghost use Rattle.macheap.specs.declared.stores.AnyStore.{AnyStore};
 
 use crate::asked::{Asked, NotAsked, asked_by};
 use crate::files::Files;
+use crate::name::write_name;
 use crate::opened::NotOpened;
 use crate::stores::{
     NoStores, Opens, close_alone, close_journalled, journalled_stores, plain_stores,
 };
 use fork_disk::store::ForkStore;
 use mac_base::zone_spec::ZoneSpec;
+use path_text::Lines;
 use script_run::{Counted, RunEnd, run, status, tell_no_memory, write_whole};
 use script_text::Wrong;
-use std::alloc::Global;
+use std::alloc::{AllocError, Global};
 use std::convert::AsStr;
 use std::fmt::Display;
 use std::io::{Read, Write};
@@ -243,7 +245,7 @@ fn tell_unopened<M: Write>(path: &str, why: NotOpened, messages: &mut Counted<M>
     if !write_whole(messages, b"cannot open ") {
         return;
     }
-    if !write_whole(messages, path.as_bytes()) {
+    if !write_name(path, messages) {
         return;
     }
     let _ = write_whole(messages, why.reason());
@@ -276,12 +278,19 @@ fn lacks_memory(error: &NotAsked) -> bool
     }
 }
 
+/// What is wrong with the words or a line. It may have in it what others wrote.
+fn text_of<E: Display>(alloc: Global, error: &E) -> Result<String, AllocError> {
+    let text = format!(in alloc; "{error}")?;
+    let lines = Lines(text.as_str());
+    format!(in alloc; "{lines}")
+}
+
 /// Writes what is wrong with the words or a line.
 fn tell<E: Display, M: Write>(alloc: Global, error: &E, messages: &mut Counted<M>)
     ensures { (text : List ℕ) × (text ≢ []) × (said : List ℕ) × Took M.contents messages.old said messages.new
         × Wrote text (RoseByOne messages.old.failures messages.new.failures) said }
 {
-    let Ok(text) = format!(in alloc; "{error}") else {
+    let Ok(text) = text_of(alloc, error) else {
         let _ = write_whole(messages, b"error: the words or a line are bad\n");
         return;
     };

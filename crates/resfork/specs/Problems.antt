@@ -1,9 +1,10 @@
 -- What is in the way of a command.
-use Rattle.std.specs.Prelude.{◌≡◌, ◌≢◌, ℕ, ◌⊎◌, true, List, codes, None, string_bytes, bytes_eq, if◌then◌else◌}
+use Rattle.std.specs.Prelude.{◌≡◌, ◌≢◌, ℕ, ◌⊎◌, true, List, codes, Option, None, Some, string_bytes, bytes_eq, if◌then◌else◌}
 use Rattle.path_text.specs.ShellWords.{shell_word}
 use Rattle.std.specs.Option.{option_map_or}
 use Rattle.fork_edit.specs.declared.change.NotChanged.{NotChanged}
 use Rattle.fork_edit.specs.declared.change.NotChanged.TheVariants as unchanged
+use Rattle.fork_edit.specs.declared.file.NotWritten.TheVariants as written
 use Rattle.fork_report.specs.declared.refusal.Refusal.{Refusal}
 use Rattle.fork_report.specs.Refused.{IsToldOf}
 use Rattle.fork_words.specs.declared.work.Target.{Target}
@@ -21,6 +22,13 @@ IsToldOfChange file unchanged.HostFull told = told ≡ problem.HostFull
 abbrev pub after_change : Problem → Problem
 after_change (problem.Print error) = problem.Said error
 after_change other = other
+
+-- the file that is in the way where a folder isn't packed: the one that the new file is like, where that is a text which
+-- can't be read, or a container which can't hold the fork
+abbrev pub file_at_fault : Option (List ℕ) → List ℕ → Problem → List ℕ
+file_at_fault (Some like) folder (problem.Write (written.Text fault)) = like
+file_at_fault (Some like) folder (problem.Write (written.Container refusal)) = like
+file_at_fault like folder other = folder
 
 -- why bytes aren't written to a file of this name, or to the standard output, which "-" is
 abbrev pub IsNotSaved : List ℕ → Problem → Type 0

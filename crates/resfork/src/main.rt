@@ -8,6 +8,7 @@ mod change;
 mod convert;
 mod host;
 mod input;
+mod lines;
 mod message;
 mod order;
 mod output;
@@ -32,6 +33,7 @@ use fork_words::asked::{
 use fork_words::{INPUT, work as asked_change};
 use host::Host;
 use input::{NotRead, read_file, read_within};
+use lines::in_lines;
 use message::{BAD_WORDS, CANT_GO_ON, DONE, NO_FORK, Problem, tell_bad_words, tell_problem};
 use parts::{answer_by_parts, list_by_parts};
 use path_text::FileName;
@@ -58,7 +60,7 @@ fn run(rt: &HostRuntime) -> u8
     };
     match asked_by(rt.alloc(), words.as_slice()) {
         Ok(Command { asked, limit }) => done(&Host { rt, limit }, asked),
-        Err(error) => tell_bad_words(rt, &error),
+        Err(fault) => tell_bad_words(rt, &in_lines(rt.alloc(), words.as_slice(), fault)),
     }
 }
 

@@ -1,6 +1,7 @@
 //! What the commands do that change files, and those that compare them.
 
-ghost use Rattle.std.specs.Prelude.{◌≡◌, ◌≢◌, ◌≤◌, IfOk, Ok};
+ghost use Rattle.std.specs.Prelude.{◌≡◌, ◌≢◌, ◌≤◌, IfOk, Ok, option_map};
+ghost use Rattle.resfork.specs.Problems.{file_at_fault};
 
 use crate::asked_change::{Comparison, Copying, Packing, Putting, Removing, Setting, Target, Work};
 use crate::change::{change, create};
@@ -13,6 +14,7 @@ use fork_bytes::table::{Row, Table};
 use fork_change::{Choice, Differences, Refusal};
 use fork_edit::difference::text_of;
 use fork_edit::edit::{Edit, second_of, unmet};
+use fork_edit::file::NotWritten;
 use fork_report::{Form, difference_line};
 use mac_base::error::HostFull;
 use std::alloc::Global;
@@ -201,10 +203,24 @@ fn pack<'a>(host: &Host<'_>, asked: Packing<'a>) -> Result<u8, Failed<'a>>
         Some(like) => of_file(like, read(host, like))?,
         None => Vec::new(host.alloc()),
     };
-    of_file(
-        asked.folder,
-        pack_folder(host, asked.folder, &bytes, &asked.target),
-    )
+    match pack_folder(host, asked.folder, &bytes, &asked.target) {
+        Ok(status) => Ok(status),
+        Err(problem) => Err(Failed {
+            file: file_at_fault(&asked, &problem),
+            problem,
+        }),
+    }
+}
+
+/// Which file is in the way where a folder isn't packed: the one that the new file is like, where that is a text which
+/// can't be read, or a container which can't hold the fork.
+fn file_at_fault<'a>(asked: &Packing<'a>, problem: &Problem) -> &'a str
+    ensures { result.now ≡ file_at_fault (option_map (λ like. like.now) asked.now.like) asked.now.folder.now problem.now }
+{
+    match (asked.like, problem) {
+        (Some(like), Problem::Write(NotWritten::Text(_) | NotWritten::Container(_))) => like,
+        _ => asked.folder,
+    }
 }
 
 /// Changes a file, or makes it where it isn't there and may be made.
