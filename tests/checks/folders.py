@@ -166,15 +166,14 @@ def try_pack(program, room):
     compare("pack of a pipe", spent(program, ["pack", "-q", folder, out], 0), 4, b"", "TEXT/1.bin can't be read: it is no regular file")
 
 
-def shared_fork(count):
-    """A fork of so many types, each of one resource: the bytes of one entry of the type list are the reference of all of them."""
-    kinds = [four(number) for number in range(count)]
-    kinds[0] = b"\0\1\xff\xff"  # as a reference: the id 1 and no name
+def shared_fork(kinds, more):
+    """A fork of these types, each of one resource: the bytes of the first entry of the type list are the reference of all of them, the id 1 and no name.
+    Its map has so many bytes more than its type list."""
     entries = b"".join(struct.pack(">4s2H", kind, 0, 2) for kind in kinds)
     data = bytes(1024)  # and then: no attributes, and data at the offset 2, followed by four bytes
-    body = struct.pack(">H", (count - 1) % 65536) + entries
+    body = struct.pack(">H", (len(kinds) - 1) % 65536) + entries + bytes(more)
     header = struct.pack(">4I", 256, 256 + len(data), len(data), 28 + len(body))
-    return kinds, header + bytes(240) + data + header + bytes(6) + struct.pack(">3H", 0, 28, 65535) + body
+    return header + bytes(240) + data + header + bytes(6) + struct.pack(">3H", 0, 28, 65535) + body
 
 
 def try_forks(program, room):
@@ -194,12 +193,26 @@ def try_forks(program, room):
             must(spent(program, words, len(fork))[0] == 0, f"{words[0]} of a large fork fails")
         write(text, run(program, ["derez", path])[1])
         compare("rez", spent(program, ["rez", "-q", text, "-o", path + ".made"], os.path.getsize(text)), 0, b"", "")
-    kinds, fork = shared_fork(65535)
+
+
+def try_types(program, room):
+    """Shows forks of as many types as a type list has: with room for all resources in the map, with too little of it, and with types that are there twice."""
+    path = os.path.join(room, "all_types")
+    kinds = [b"\0\1\xff\xff", *(four(number) for number in range(1, 65535))]
+    fork = shared_fork(kinds, 4 * len(kinds))
     write(path, fork)
-    status, said, told = spent(program, ["ls", "--types", path], len(fork))
-    must((status, told) == (0, "") and said.count(b"      1\n") == len(kinds), f"not all of 65535 types are listed: {status}, {told}")
-    status, said, told = spent(program, ["info", path], len(fork))
-    must((status, told) == (0, "") and said.count(b"      1\n") == len(kinds), f"not all of 65535 types are counted: {status}, {told}")
+    for words in (["ls", "--types", path], ["info", path]):
+        status, said, told = spent(program, words, len(fork))
+        must((status, told) == (0, "") and said.count(b"      1\n") == len(kinds), f"{words}: not all of 65535 types are counted: {status}, {told}")
+    crowded = f"there are 65535 resources in a map of 524310 bytes, and at most {524310 // 12} are read"
+    last, same = "'AAAB' is twice in the type list", "'AAAA' is twice in the type list"
+    for some, more, said in ((kinds, 0, crowded), ([*kinds[:-1], b"AAAB"], 4 * len(kinds), last), ([b"AAAA"] * 65535, 4 * len(kinds), same)):
+        fork = shared_fork(some, more)
+        write(path, fork)
+        for words in (["ls", path], ["info", path], ["check", path]):
+            status, shown, told = spent(program, words, len(fork))
+            must(status == 3 and said in told + shown.decode("latin-1"), f"{words}: status {status}, and it told {told[:200]!r}")
+        must(spent(program, ["salvage", path], len(fork))[0] == 0, "salvage of a fork of 65535 types fails")
 
 
 def try_texts(program, room):
@@ -280,6 +293,7 @@ def main(program, times=250):
             try_limit(program, room)
             try_pack(program, room)
             try_forks(program, room)
+            try_types(program, room)
             try_texts(program, room)
             try_entries(program, room)
             try_runs(program, room)

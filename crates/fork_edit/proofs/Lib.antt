@@ -3,3 +3,4 @@ mod Comes
 pub mod Entries
 mod Lost
 mod Refusing
+pub mod Alike

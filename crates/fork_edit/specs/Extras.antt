@@ -13,6 +13,7 @@ use Rattle.mac_write.specs.Lost.{says_something}
 use Rattle.fork_bytes.specs.Fork.{bytes_at}
 use Rattle.fork_edit.specs.declared.extra.Extra.{Extra}
 use Rattle.fork_edit.specs.declared.extra.Extra.TheVariants as extra
+use Rattle.fork_edit.specs.declared.extra.Firsts.{Firsts}
 
 -- AppleSingle and AppleDouble.
 
@@ -42,6 +43,24 @@ extra_in id bytes =
     else if id == 8 then dates_extra bytes
     else if id == 9 then finder_extra bytes
     else Some (extra.Entry id)
+
+-- the first entry with the id is read
+abbrev pub is_read : ℕ → Bool
+is_read id = (nat_le 1 id && nat_le id 4) || (id == 8) || (id == 9)
+
+-- the first entries with the ids of which the first is read
+abbrev pub firsts_of : List ℕ → Firsts
+firsts_of file = record {
+  data_fork = entry_of 1 file;
+  resource_fork = entry_of 2 file;
+  name = entry_of 3 file;
+  comment = entry_of 4 file;
+  dates = entry_of 8 file;
+  finder = entry_of 9 file;
+}
+
+abbrev pub first_with : ℕ → List ℕ → Option Entry
+first_with id file = if is_read id then entry_of id file else None
 
 -- the entry is the one that was found
 abbrev pub is_found : Entry → Option Entry → Bool

@@ -1,13 +1,13 @@
 //! What a file has that no container is given: all but the forks, the name, the type, the creator and the flags, the
 //! first two dates and the comment.
 
-ghost use Rattle.std.specs.Prelude.{◌≡◌, ◌≤◌, ◌+◌, ◌*◌, ◌++◌, true, IfOk, List, None, OnOk, drop, filter_map, length};
+ghost use Rattle.std.specs.Prelude.{◌≡◌, ◌≤◌, ◌+◌, ◌*◌, ◌++◌, true, ℕ, IfOk, List, None, OnOk, drop, filter_map, length};
 ghost use Rattle.std.specs.List.{cons_option};
 ghost use Rattle.mac_files.specs.Apple.{entries_of, entry_count, entry_outside};
 ghost use Rattle.mac_files.specs.Parts.{lies_within};
 ghost use Rattle.mac_write.specs.Lost.{says_something};
 ghost use Rattle.fork_bytes.specs.Fork.{bytes_at};
-ghost use Rattle.fork_edit.specs.Extras.{apple_extras, binary_extras, dates_extra, extra_in, extra_of, extras, finder_extra, has_notes, has_other_dates, is_found, is_known};
+ghost use Rattle.fork_edit.specs.Extras.{apple_extras, binary_extras, dates_extra, extra_in, extra_of, extras, finder_extra, first_with, firsts_of, has_notes, has_other_dates, is_found, is_known};
 ghost use Rattle.fork_edit.specs.declared.extra.Extra.{Extra};
 
 use mac_files::apple::{check, entry_at, entry_count, find_entry};
@@ -131,17 +131,61 @@ fn is_found(entry: &Entry, found: Option<Entry>) -> bool
     }
 }
 
+/// The first entries with the ids of which the first is read.
+#[derive(Clone, Copy)]
+struct Firsts {
+    data_fork: Option<Entry>,
+    resource_fork: Option<Entry>,
+    name: Option<Entry>,
+    comment: Option<Entry>,
+    dates: Option<Entry>,
+    finder: Option<Entry>,
+}
+
+impl Firsts {
+    /// Those of a file.
+    fn of(file: &[u8]) -> Firsts
+        requires header { 26 ≤ length file.now }
+        requires list { 26 + 12 * entry_count file.now ≤ length file.now }
+        requires entries { entry_outside file.now ≡ None }
+        ensures { result ≡ firsts_of file.now }
+    {
+        Firsts {
+            data_fork: find_entry(file, 1),
+            resource_fork: find_entry(file, 2),
+            name: find_entry(file, 3),
+            comment: find_entry(file, 4),
+            dates: find_entry(file, 8),
+            finder: find_entry(file, 9),
+        }
+    }
+
+    /// That with an id; none of an id of which no entry is read.
+    fn with(&self, id: u32) -> Option<Entry>
+        ensures { (file : List ℕ) → self.now ≡ firsts_of file → result ≡ first_with id file }
+    {
+        match id {
+            1 => self.data_fork,
+            2 => self.resource_fork,
+            3 => self.name,
+            4 => self.comment,
+            8 => self.dates,
+            9 => self.finder,
+            _ => None,
+        }
+    }
+}
+
 /// What an entry has: one of no bytes nothing, and the second with an id all of it.
-fn extra_of(file: &[u8], entry: &Entry) -> Option<Extra>
-    requires header { 26 ≤ length file.now }
-    requires list { 26 + 12 * entry_count file.now ≤ length file.now }
-    requires entries { entry_outside file.now ≡ None }
+#[tactic(auto, using(crate::proofs::Alike::alike))]
+fn extra_of(file: &[u8], firsts: &Firsts, entry: &Entry) -> Option<Extra>
+    requires firsts { firsts.now ≡ firsts_of file.now }
     requires within { lies_within (length file.now) entry.now.part ≡ true }
     ensures { result ≡ extra_of file.now entry.now }
 {
     if entry.part.length == 0 {
         None
-    } else if is_found(entry, find_entry(file, entry.id)) {
+    } else if is_found(entry, firsts.with(entry.id)) {
         extra_in(entry.id, entry.part.bytes(file))
     } else {
         Some(Extra::Entry(entry.id))
@@ -167,10 +211,11 @@ fn entry_extras(alloc: Global, file: &[u8]) -> Result<Vec<Extra>, AllocError>
     requires entries { entry_outside file.now ≡ None }
     ensures { IfOk result (λ extras. extras.items ≡ filter_map (extra_of file.now) (entries_of file.now)) }
 {
+    let firsts = Firsts::of(file);
     let mut extras = Vec::new(alloc);
     for index in 0..entry_count(file) as usize {
         let entry = entry_at(file, LIST_PLACE + ENTRY_LENGTH * index);
-        push_extra(&mut extras, extra_of(file, &entry))?;
+        push_extra(&mut extras, extra_of(file, &firsts, &entry))?;
     }
     Ok(extras)
 }

@@ -101,7 +101,7 @@ impl Damage {
         };
         let fork = found.fork();
         Some(Damage {
-            fault: first_fault(fork)?,
+            fault: first_fault(alloc, fork)?,
             holder: Holder::of_file(file),
             tally: tally_of(fork),
         })

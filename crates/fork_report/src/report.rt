@@ -165,11 +165,11 @@ pub fn salvage_list(alloc: Global, letters: Letters, bytes: &[u8]) -> Result<Str
 }
 
 /// How much can be read of a fork that is damaged; None of one that isn't. It is refused where no resource can be read.
-fn left_of(fork: &[u8]) -> Result<Option<Tally>, Refusal>
+fn left_of(alloc: Global, fork: &[u8]) -> Result<Option<Tally>, Refusal>
     ensures told { IfOk result (TellsLeft fork.now) }
     ensures nothing { IfErr result (λ refusal. (refusal ≡ Refusal.Nothing) × IsDamaged fork.now × (is_readable (tally_of fork.now) ≡ false)) }
 {
-    if fork.is_empty() || first_fault(fork).is_none() {
+    if fork.is_empty() || first_fault(alloc, fork).is_none() {
         return Ok(None);
     }
     let tally = tally_of(fork);
@@ -186,7 +186,7 @@ pub fn salvage(alloc: Global, bytes: &[u8]) -> Result<(Vec<u8>, Option<Tally>), 
 {
     let found = fork_in(alloc, bytes)?;
     let fork = found.fork();
-    let left = left_of(fork)?;
+    let left = left_of(alloc, fork)?;
     match mended_fork(alloc, fork) {
         Ok(bytes) => Ok((bytes, left)),
         Err(WriteFault::HostFull) => Err(Refusal::Show(Failure::HostFull)),

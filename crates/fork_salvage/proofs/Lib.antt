@@ -6,3 +6,4 @@ pub mod DataFaults
 pub mod Conditions
 pub mod Order
 pub mod Checked
+pub mod Earlier

@@ -1,6 +1,6 @@
 //! All faults of the header, the map and the type list of a fork.
 
-ghost use Rattle.std.specs.Prelude.{◌≡◌, ◌<◌, ◌≤◌, ◌+◌, ◌*◌, ◌++◌, ◌^◌, length, OnOk, IfOk, option_to_list, option_map, find, bytes_eq, not, ◌⊎◌, ◌∷◌, []};
+ghost use Rattle.std.specs.Prelude.{◌≡◌, ◌<◌, ◌≤◌, ◌+◌, ◌*◌, ◌++◌, ◌^◌, length, OnOk, IfOk, IfSome, option_to_list, option_map, find, bytes_eq, not, ◌⊎◌, ◌∷◌, []};
 ghost use Rattle.std.specs.List.{filter};
 ghost use Rattle.fork_bytes.specs.Fork.{places, IsForkWithin, RefusesWithin, format_limits};
 ghost use Rattle.fork_salvage.specs.Plans.{IsPlan, IsTypes, IsTold, reference_of};
@@ -13,6 +13,7 @@ use crate::cursor::Cursor;
 use crate::entry::{ENTRY_LENGTH, ReferenceList, Types, told_list};
 use crate::fault::{BadList, Fault, SameType};
 use crate::first::{MAX_FORK, bad_row, find_count, first_fault};
+use crate::firsts::{Firsts, note_type};
 use crate::number::{read_count, read_two};
 use crate::place::{Gap, Parts, Span};
 use crate::plan::{HEADER_LENGTH, MAP_HEADER_LENGTH, Plan, parts_at, told_plan};
@@ -114,25 +115,28 @@ fn list_fault(map: Span, list: ReferenceList) -> Option<Fault>
     Some(Fault::References(BadList { kind, gap }))
 }
 
-/// Whether an entry of the type list has the type of an earlier one.
-fn same_type(part: Span, map: &[u8], types: Types, index: usize) -> Option<Fault>
+/// The fault of an entry of the type list that has the type of an earlier one, if this is the first such.
+fn same_type(
+    part: Span,
+    map: &[u8],
+    types: Types,
+    index: usize,
+    earlier: Option<usize>,
+) -> Option<Fault>
     requires types { IsTypes map.now types }
     requires within { index < types.count }
     requires place { part.start < 2 ^ 63 }
+    requires before { IfSome earlier (λ first. first < index) }
+    requires earlier { earlier ≡ earlier_type map.now types (told_list map.now types index).kind (places index 0 1) }
     ensures { result ≡ same_type part map.now types index }
 {
     let start = part.start + types.place + 2;
-    let kind = told_list(map, types, index).kind;
-    for i in 0..index {
-        if told_list(map, types, i).kind == kind {
-            return Some(Fault::SameType(SameType {
-                kind,
-                first: start + ENTRY_LENGTH * i,
-                second: start + ENTRY_LENGTH * index,
-            }));
-        }
-    }
-    None
+    let first = earlier?;
+    Some(Fault::SameType(SameType {
+        kind: told_list(map, types, index).kind,
+        first: start + ENTRY_LENGTH * first,
+        second: start + ENTRY_LENGTH * index,
+    }))
 }
 
 /// Adds the faults of the entries of a type list.
@@ -146,8 +150,10 @@ fn push_entries(
     requires place { part.start < 2 ^ 63 }
     ensures { OnOk result (faults.new.items ≡ faults.old.items ++ entries_faults part map.now types 0) }
 {
+    let mut firsts = Firsts::new(*faults.allocator());
     for i in 0..types.count {
-        push_fault(faults, same_type(part, map, types, i))?;
+        let earlier = note_type(&mut firsts, map, types, i)?;
+        push_fault(faults, same_type(part, map, types, i, earlier))?;
         push_fault(faults, list_fault(part, told_list(map, types, i)))?;
     }
     Ok(())
@@ -308,7 +314,7 @@ pub fn all_faults(alloc: Global, fork: &[u8]) -> Result<Vec<Fault>, AllocError>
     ensures all { IfOk result (λ faults. (faults.items ≡ []) ⊎ ((first : Fault) × IsFault fork.now first × RefusesWithin format_limits fork.now (refusal_of first)
         × (faults.items ≡ first ∷ filter (λ other. not (⟦<Fault as PartialEq>⟧.eq other first)) (found_faults fork.now)))) }
 {
-    let Some(first) = first_fault(fork) else {
+    let Some(first) = first_fault(alloc, fork) else {
         return Ok(Vec::new(alloc));
     };
     let mut found = Vec::new(alloc);

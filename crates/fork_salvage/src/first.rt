@@ -6,7 +6,7 @@ ghost use Rattle.fork_bytes.specs.Fork.{number_at, header_of, map_of, name_list,
 ghost use Rattle.fork_bytes.specs.declared.fault.Condition.TheVariants as condition;
 ghost use Rattle.fork_bytes.specs.declared.fault.ForkFault.TheVariants.{BadMap};
 ghost use Rattle.fork_bytes.specs.Reading.{HasName};
-ghost use Rattle.fork_salvage.specs.Plans.{IsTold, IsTypes, reference_of};
+ghost use Rattle.fork_salvage.specs.Plans.{AreDistinct, IsRepeat, IsTold, IsTypes, reference_of};
 ghost use Rattle.fork_salvage.specs.Salvage.{parts_at, map_in, told_list};
 ghost use Rattle.fork_salvage.specs.Faults.{count_fault};
 ghost use Rattle.fork_salvage.specs.Fault.{IsFault, HasBytes, IsGap, bad_row, refusal_of};
@@ -14,11 +14,13 @@ ghost use Rattle.fork_salvage.specs.Fault.{IsFault, HasBytes, IsGap, bad_row, re
 use crate::cursor::Cursor;
 use crate::entry::{ENTRY_LENGTH, ReferenceList, Types, told_count, told_list};
 use crate::fault::{BadList, BadRow, Excess, Fault, SameType};
+use crate::firsts::{Firsts, note_type};
 use crate::number::{read_count, read_signed, read_two};
 use crate::place::{Gap, Parts, Span};
 use crate::plan::{HEADER_LENGTH, MAP_HEADER_LENGTH, Plan, parts_at};
 use crate::reference::{Loss, MapReference, NO_NAME, REFERENCE_LENGTH, find_bytes};
 use fork_bytes::layout::Limits;
+use std::alloc::{AllocError, Global};
 
 /// The most bytes of a fork, and the most bytes of all resources with their lengths.
 pub(crate) const MAX_FORK: usize = Limits::FORMAT.fork as usize;
@@ -99,8 +101,53 @@ fn earlier_type(map: &[u8], types: Types, index: usize) -> Option<usize>
     None
 }
 
+/// The first entry that has the type of an earlier one, and that one before it. Each is compared with all before it.
+fn searched_repeat(map: &[u8], types: Types) -> Option<(usize, usize)>
+    requires { IsTypes map.now types }
+    ensures some { IfSome result (λ pair. IsRepeat map.now types pair.0 pair.1) }
+    ensures none { IfNone result (AreDistinct map.now types types.count) }
+{
+    for i in 0..types.count {
+        if let Some(first) = earlier_type(map, types, i) {
+            return Some((first, i));
+        }
+    }
+    None
+}
+
+/// The same, by a table of the types so far.
+fn noted_repeat(
+    alloc: Global,
+    map: &[u8],
+    types: Types,
+) -> Result<Option<(usize, usize)>, AllocError>
+    requires { IsTypes map.now types }
+    ensures some { IfOk result (λ found. IfSome found (λ pair. IsRepeat map.now types pair.0 pair.1)) }
+    ensures none { IfOk result (λ found. IfNone found (AreDistinct map.now types types.count)) }
+{
+    let mut firsts = Firsts::new(alloc);
+    for i in 0..types.count {
+        if let Some(first) = note_type(&mut firsts, map, types, i)? {
+            return Ok(Some((first, i)));
+        }
+    }
+    Ok(None)
+}
+
+/// The same, also where the host has no memory for a table.
+fn find_repeat(alloc: Global, map: &[u8], types: Types) -> Option<(usize, usize)>
+    requires { IsTypes map.now types }
+    ensures some { IfSome result (λ pair. IsRepeat map.now types pair.0 pair.1) }
+    ensures none { IfNone result (AreDistinct map.now types types.count) }
+{
+    match noted_repeat(alloc, map, types) {
+        Ok(found) => found,
+        Err(_) => searched_repeat(map, types),
+    }
+}
+
 /// The first entry of the type list that has the type of an earlier one.
-fn find_same_type(fork: &[u8], plan: &Plan) -> Option<Fault>
+fn find_same_type(alloc: Global, fork: &[u8], plan: &Plan) -> Option<Fault>
     requires { IsTold fork.now plan.now }
     ensures some { IfSome result (IsFault fork.now) }
     ensures refusal { IfSome result (λ fault. refusal_of fault ≡ BadMap condition.Types) }
@@ -108,16 +155,14 @@ fn find_same_type(fork: &[u8], plan: &Plan) -> Option<Fault>
 {
     let map = plan.map.of(fork);
     let start = plan.map.start + plan.types.place + 2;
-    for i in 0..plan.types.count {
-        if let Some(first) = earlier_type(map, plan.types, i) {
-            return Some(Fault::SameType(SameType {
-                kind: told_list(map, plan.types, i).kind,
-                first: start + ENTRY_LENGTH * first,
-                second: start + ENTRY_LENGTH * i,
-            }));
-        }
+    match find_repeat(alloc, map, plan.types) {
+        Some((first, second)) => Some(Fault::SameType(SameType {
+            kind: told_list(map, plan.types, second).kind,
+            first: start + ENTRY_LENGTH * first,
+            second: start + ENTRY_LENGTH * second,
+        })),
+        None => None,
     }
-    None
 }
 
 /// What is missing of a list of references, if there are some.
@@ -279,7 +324,7 @@ fn find_sum(fork: &[u8], plan: &Plan) -> Option<Fault>
 }
 
 /// The first fault of the map and the data of a fork whose type list lies within the map.
-fn find_fault(fork: &[u8], plan: &Plan) -> Option<Fault>
+fn find_fault(alloc: Global, fork: &[u8], plan: &Plan) -> Option<Fault>
     requires header { 16 ≤ length fork.now }
     requires parts { HoldsWithin format_limits condition.Parts fork.now }
     requires told { IsTold fork.now plan.now }
@@ -287,7 +332,7 @@ fn find_fault(fork: &[u8], plan: &Plan) -> Option<Fault>
     ensures refuses { IfSome result (λ fault. RefusesWithin format_limits fork.now (refusal_of fault)) }
     ensures none { IfNone result (IsForkWithin format_limits fork.now) }
 {
-    if let Some(fault) = find_same_type(fork, plan) {
+    if let Some(fault) = find_same_type(alloc, fork, plan) {
         return Some(fault);
     }
     if let Some(fault) = find_list(fork, plan) {
@@ -307,9 +352,9 @@ fn find_fault(fork: &[u8], plan: &Plan) -> Option<Fault>
 
 /// The first fault of a fork, in the order of the reader's conditions and at the least place, or None exactly where the
 /// bytes are a fork within the format's limits. Its condition is the first that doesn't hold, as
-/// `fork_bytes::read_fork_within` says it.
+/// `fork_bytes::read_fork_within` says it. Without host memory it is found too, and many types take long.
 #[tactic(auto, using(crate::proofs::Conditions::refuses_at, crate::proofs::Order::below_types))]
-pub fn first_fault(fork: &[u8]) -> Option<Fault>
+pub fn first_fault(alloc: Global, fork: &[u8]) -> Option<Fault>
     ensures fault { IfSome result (IsFault fork.now) }
     ensures refuses { IfSome result (λ fault. RefusesWithin format_limits fork.now (refusal_of fault)) }
     ensures none { IfNone result (IsForkWithin format_limits fork.now) }
@@ -319,7 +364,7 @@ pub fn first_fault(fork: &[u8]) -> Option<Fault>
         Err(fault) => return Some(fault),
     };
     match check_types(fork, parts) {
-        Ok(plan) => find_fault(fork, &plan),
+        Ok(plan) => find_fault(alloc, fork, &plan),
         Err(fault) => Some(fault),
     }
 }

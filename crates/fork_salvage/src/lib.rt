@@ -1,5 +1,5 @@
-//! What can still be read of a damaged resource fork, and where its first fault is. Nothing is allocated, and no count
-//! of resources or of bytes is too large.
+//! What can still be read of a damaged resource fork, and where its first fault is. No count of resources
+//! or of bytes is too large.
 #![tactic(auto)]
 
 mod check;
@@ -7,6 +7,7 @@ mod cursor;
 mod entry;
 mod fault;
 mod first;
+mod firsts;
 mod found;
 mod laws;
 mod number;

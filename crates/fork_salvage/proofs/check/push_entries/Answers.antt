@@ -13,4 +13,7 @@ loop-i-preserved c =
     let list = ap (list_fault part) (sym c.told_list.ensures.list) ∙ sym c.list_fault.ensures in
     let is : entry_faults part m types i ≡ option_to_list c.same_type.result ++ option_to_list c.list_fault.result =
     ap (λ (o : Option Fault). option_to_list o ++ option_to_list (list_fault part (told_list m types i))) same ∙ ap (λ (o : Option Fault). option_to_list c.same_type.result ++ option_to_list o) list in
-    rw (c.in_ok-push_fault-2.ensures, c.in_ok-push_fault.ensures) (entries_step part m types i _ _ _ _ c.loop-i-test.true is c.loop-i.invariant)
+    record {
+      firsts = c.in_ok-earlier.ensures.noted;
+      so_far = rw (c.in_ok-push_fault-2.ensures, c.in_ok-push_fault.ensures) (entries_step part m types i _ _ _ _ c.loop-i-test.true is c.loop-i.invariant.so_far);
+    }

@@ -1,6 +1,9 @@
-use Rattle.std.proofs.Common.{arith}
+use Rattle.std.proofs.Common.{List, ℕ, subst, arith}
+use Rattle.fork_salvage.specs.Plans.{AreDistinct}
 use Rattle.fork_salvage.proofs.Conditions.{types_hold}
 use Rattle.fork_salvage.proofs.first.find_same_type.Goals as goal
 
-pub returns-clause-none : goal.returns-clause-none
-returns-clause-none c = types_hold c.args.fork.now c.args.plan.now c.loop-i.i c.requires (let past = c.loop-i-test.false in omega arith) c.loop-i.invariant
+pub returns-in-None-clause-none : goal.returns-in-None-clause-none
+returns-in-None-clause-none c =
+    let types = c.args.plan.now.types in
+    types_hold c.args.fork.now c.args.plan.now types.count c.requires (omega arith) (subst (λ (m : List ℕ). AreDistinct m types types.count) c.of-map.ensures c.in-None.ensures.none)
