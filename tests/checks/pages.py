@@ -33,11 +33,19 @@ LINES = {
 }
 WIDTH = 100
 # the most words of all pages, code blocks aside
-WORDS = 10300
+WORDS = 10400
 GLOSSARY = "docs/DESIGN.md"
 # the line of the glossary that has the words that no page uses, and what is allowed of them
 ALLOWED = re.compile(r"\bstands? for\b")
 UNUSED = re.compile(r"^Not used on these pages, nor in comments: ([^.]*)\.$", re.M)
+# where the version is, which is one for the programs, the library, the crate of C's and the pages
+VERSIONS = {
+    "include/macheap.h": re.compile(r'#define MACHEAP_VERSION "(.*)"'),
+    "crates/fork_words/src/command.rt": re.compile(r'\.version\("(.*)"\)'),
+    "crates/macheap/src/asked.rt": re.compile(r'const VERSION: &str = "(.*)"'),
+    "c/rust/Cargo.toml": re.compile(r'^version = "(.*)"', re.M),
+    "docs/resfork.1": re.compile(r'^\.TH .*"resfork (.*)"', re.M),
+}
 # where a comment begins in a source
 COMMENTS = {".rt": re.compile(r"//.*"), ".antt": re.compile(r"--(?: .*|$)")}
 
@@ -129,6 +137,14 @@ def wrong_man_pages(unused):
         yield from (f"{page}: {it}" for it in words_used(man_pages.read(page), unused))
 
 
+def wrong_versions():
+    """What is wrong with the versions, which are all the same."""
+    found = {path: version.findall(man_pages.read(path)) for path, version in VERSIONS.items()}
+    first = next(iter(found.values()))
+    if len(first) != 1 or any(it != first for it in found.values()):
+        yield f"there is more than one version: {found}"
+
+
 def wrong_comments(unused):
     """What is wrong with the comments of the crates' sources."""
     for ending, comment in COMMENTS.items():
@@ -147,7 +163,7 @@ def main():
             texts[page] = it.read()
     found = UNUSED.search(texts[GLOSSARY])
     unused = re.findall(r"\*(\w+)\*", found[1]) if found else []
-    faults = [*wrong_in_all(texts), *wrong_man_pages(unused), *wrong_comments(unused)]
+    faults = [*wrong_in_all(texts), *wrong_man_pages(unused), *wrong_comments(unused), *wrong_versions()]
     if not unused:
         faults.append(f"{GLOSSARY} has no line 'Not used on these pages, nor in comments: *WORD*, ..'")
     for page, text in texts.items():

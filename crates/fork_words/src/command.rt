@@ -393,7 +393,7 @@ fn bare_program<'a>(alloc: Global) -> Result<Command<'a>, AllocError> {
     Ok(
         Command::new(alloc, "resfork")
             .bin_name("resfork")?
-            .version("1.0")
+            .version("0.1.0")
             .about(ABOUT)
             .after_long_help(EXAMPLES)
             .subcommand_required(true)

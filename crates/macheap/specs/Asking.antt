@@ -1,8 +1,8 @@
 -- What the words of the command line ask for.
-use Rattle.std.specs.Prelude.{◌≡◌, ◌≢◌, ◌<◌, ◌≤◌, ℕ, Bool, true, false, List, [], length, map, Option, Some, None, Result, Ok, Err, codes}
+use Rattle.std.specs.Prelude.{◌≡◌, ◌≢◌, ◌<◌, ◌≤◌, ℕ, Bool, true, false, List, [], length, map, Option, Some, None, Result, Ok, Err, codes, ◌⊎◌}
 use Rattle.clap.specs.Words.{Text, IsAmong, kind_of}
 use Rattle.clap.specs.declared.error.kind.ErrorKind.{ErrorKind}
-use Rattle.clap.specs.declared.error.kind.ErrorKind.TheVariants.{DisplayHelp, OutOfMemory}
+use Rattle.clap.specs.declared.error.kind.ErrorKind.TheVariants.{DisplayHelp, DisplayVersion, OutOfMemory}
 use Rattle.mac_base.specs.declared.block.HeadKind.{HeadKind}
 use Rattle.mac_base.specs.declared.zone_spec.BadSpec.{BadSpec}
 use Rattle.mac_base.specs.ZoneSizes.{ZoneSizes, ArePossible, AreUsual, first_fault, first_large_fault}
@@ -51,13 +51,17 @@ pub record AsksForRun (words : List Text) (sizes : ZoneSizes) (forks journals : 
   pub forks_are : forks ≡ forks_of words
   pub journals_are : journals ≡ journals_of words
 
--- the words ask for help
-abbrev pub AsksForHelp : List Text → Type 0
-AsksForHelp words = IsAmong DisplayHelp (faults words)
+-- what the words ask to be shown: help, or the version
+abbrev pub IsShown : ErrorKind → Type 0
+IsShown kind = (kind ≡ DisplayHelp) ⊎ (kind ≡ DisplayVersion)
 
--- the words don't match the options, and don't ask for help
+-- the words ask for help, or for the version
+abbrev pub AsksForHelp : List Text → Type 0
+AsksForHelp words = IsAmong DisplayHelp (faults words) ⊎ IsAmong DisplayVersion (faults words)
+
+-- the words don't match the options, and don't ask for help or the version
 abbrev pub DontMatch : List Text → Type 0
-DontMatch words = (fault : ErrorKind) × IsAmong fault (faults words) × (fault ≢ DisplayHelp)
+DontMatch words = (fault : ErrorKind) × IsAmong fault (faults words) × ¬ IsShown fault
 
 -- the words match the options, and name more files than a run may have
 abbrev pub NamesTooMany : List Text → Type 0
@@ -91,8 +95,8 @@ GivesNoZone words fault = (base : ℕ) × (size : ℕ) × (limit : ℕ) × (mode
 -- come at any time.
 abbrev pub Asks : List Text → Result Asked NotAsked → Type 0
 Asks words (Ok (Run sizes files)) = AsksForRun words sizes (map (λ name. name.now) files.forks.items) (map (λ name. name.now) files.journals.items)
-Asks words (Ok (Help text)) = AsksForHelp words × (kind_of text ≡ DisplayHelp)
-Asks words (Err (Words fault)) = IsAmong (kind_of fault) (faults words) × (kind_of fault ≢ DisplayHelp)
+Asks words (Ok (Help text)) = IsAmong (kind_of text) (faults words) × IsShown (kind_of text)
+Asks words (Err (Words fault)) = IsAmong (kind_of fault) (faults words) × ¬ IsShown (kind_of fault)
 Asks words (Err (NoNumber option)) = GivesNoNumber words option.now
 Asks words (Err TooManyForks) = NamesTooMany words
 Asks words (Err OtherJournals) = JournalsDontFit words
@@ -100,12 +104,12 @@ Asks words (Err (Mode mode)) = GivesNoMode words mode
 Asks words (Err (Spec fault)) = GivesNoZone words fault
 Asks words (Err HostFull) = Unit {0}
 
--- what an error of this kind means: a question for help, want of memory, or words that don't match; the error is handed
+-- what an error of this kind means: a question for help or the version, want of memory, or words that don't match; the error is handed
 -- on
 abbrev pub MeansNoRun : ErrorKind → Result Asked NotAsked → Type 0
 MeansNoRun kind (Ok (Run sizes files)) = ⊥
-MeansNoRun kind (Ok (Help text)) = (kind ≡ DisplayHelp) × (kind_of text ≡ kind)
-MeansNoRun kind (Err (Words fault)) = (kind ≢ DisplayHelp) × (kind ≢ OutOfMemory) × (kind_of fault ≡ kind)
+MeansNoRun kind (Ok (Help text)) = IsShown kind × (kind_of text ≡ kind)
+MeansNoRun kind (Err (Words fault)) = (¬ IsShown kind) × (kind ≢ OutOfMemory) × (kind_of fault ≡ kind)
 MeansNoRun kind (Err HostFull) = kind ≡ OutOfMemory
 MeansNoRun kind (Err other) = ⊥
 

@@ -17,6 +17,9 @@ use std::alloc::{AllocError, Global};
 use std::convert::AsStr;
 use thiserror::Error;
 
+/// The version, which is that of `resfork` and of the library too.
+const VERSION: &str = "0.1.0";
+
 /// The size of a zone where `--zone` doesn't give one, in bytes.
 pub const DEFAULT_ZONE: u32 = 4096;
 
@@ -31,7 +34,7 @@ pub const DEFAULT_MODE: u32 = 24;
 pub enum Asked<'a> {
     /// To run the script of standard input on such a zone, over these files.
     Run(ZoneSpec, Files<'a>),
-    /// To show this help text, and to run nothing.
+    /// To show this text, help or the version, and to run nothing.
     Help(clap::Error),
 }
 
@@ -123,6 +126,7 @@ fn command<'a>(alloc: Global) -> Result<Command<'a>, AllocError>
     let large_help =
         "Takes a zone of up to 1073741824 bytes, which with --mode 32 may end anywhere below 4294967296";
     Command::new(alloc, "macheap")
+        .version(VERSION)
         .arg(number_option(alloc, "zone", zone_help))?
         .arg(number_option(alloc, "limit", limit_help))?
         .arg(number_option(alloc, "base", base_help))?
@@ -202,7 +206,7 @@ fn not_matched<'a>(error: clap::Error) -> Result<Asked<'a>, NotAsked>
     ensures { MeansNoRun (kind_of error) result }
 {
     match error.kind() {
-        ErrorKind::DisplayHelp => Ok(Asked::Help(error)),
+        ErrorKind::DisplayHelp | ErrorKind::DisplayVersion => Ok(Asked::Help(error)),
         ErrorKind::OutOfMemory => Err(NotAsked::HostFull),
         _ => Err(NotAsked::Words(error)),
     }
