@@ -1,4 +1,3 @@
 pub mod Along
 pub mod Leaving
 pub mod Keeping
-pub mod NewFolders

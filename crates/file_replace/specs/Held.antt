@@ -5,13 +5,10 @@ use Rattle.std.specs.Path.{path_buf_bytes}
 use Rattle.std.specs.declared.io.Error.{Error}
 use Rattle.std.specs.declared.path.buf.PathBuf.{PathBuf}
 use Rattle.std.specs.Global.{Global}
-use Rattle.file_replace.specs.declared.beside.Beside.{Beside}
 use Rattle.file_replace.specs.declared.calls.HeldCall.{HeldCall}
-use Rattle.file_replace.specs.declared.calls.HeldCall.TheVariants.{Found, OpenFolder, Put}
+use Rattle.file_replace.specs.declared.calls.HeldCall.TheVariants.{OpenFolder, Put}
 use Rattle.file_replace.specs.declared.calls.HeldCall.TheVariants as held
 use Rattle.file_replace.specs.declared.calls.Call.TheVariants as calls
-use Rattle.file_replace.specs.declared.calls.Kind.{Kind}
-use Rattle.file_replace.specs.declared.calls.Kind.TheVariants.{Regular, Other, Missing}
 use Rattle.file_replace.specs.declared.calls.Wanted.{Wanted}
 use Rattle.file_replace.specs.declared.calls.Wanted.TheVariants.{Same, Nothing, Anything}
 use Rattle.file_replace.specs.declared.destination.Destination.{Destination}
@@ -48,11 +45,6 @@ use Rattle.file_replace.specs.Replacing.{CallsOf, CallsToPrepare, CallsToPut, Pr
 -- what was done for a file, the newest first
 abbrev pub Log : Type 0
 Log = List HeldCall
-
--- a file that was made beside may be there still
-abbrev pub leaves : Option Beside → Bool
-leaves None = false
-leaves (Some beside) = is_some beside.path
 
 -- a fault as it is reported: with the path of the file that is left beside
 abbrev pub fault_of : Stop → Fault Error
@@ -191,26 +183,3 @@ abbrev pub PreparesAt : {F : Type 0} → HeldAt → Destination → List ℕ →
 PreparesAt there (destinations.Existing held) bytes result old new = MakesPrepared there (path_buf_bytes held.path) Same (Some held.rights) held.names bytes result old new
 PreparesAt there (destinations.New it) bytes result old new = MakesPrepared there (path_buf_bytes it.path) Nothing None 1 bytes result old new
 PreparesAt there (destinations.Stream stream) bytes result old new = IsOkAnd result (IsForStream bytes) × (new ≡ old)
-
--- the path wasn't opened: no file was to be put yet
-abbrev pub IsUnopened : NotReplaced → Type 0
-IsUnopened (refusals.Stopped stop) = ⊥
-IsUnopened (refusals.NoBackup name stop) = ⊥
-IsUnopened (refusals.Stream error) = ⊥
-IsUnopened refusal = ⊤
-
--- what a path leads to that was opened
-abbrev pub kind_of : Destination → Kind
-kind_of (destinations.Existing held) = Regular
-kind_of (destinations.New it) = Missing
-kind_of (destinations.Stream stream) = Other
-
--- the path was looked at, and this was found
-abbrev pub Looks : Result Kind NotReplaced → Log → Log → Type 0
-Looks (Ok kind) old new = new ≡ Found kind ∷ old
-Looks (Err refusal) old new = IsUnopened refusal × (new ≡ old)
-
--- a path was opened as what was found there, or it wasn't, and at most it was looked at
-abbrev pub OpensAs : {T : Type 0} → (T → Kind) → Result T NotReplaced → Log → Log → Type 0
-OpensAs kind_of (Ok value) old new = new ≡ Found (kind_of value) ∷ old
-OpensAs kind_of (Err refusal) old new = IsUnopened refusal × ((new ≡ old) ⊎ ((kind : Kind) × (new ≡ Found kind ∷ old)))

@@ -6,4 +6,5 @@ pub mod Pair
 pub mod Calls
 pub mod Memory
 pub mod Held
-pub mod NewFolder
+pub mod Opening
+pub mod Beneath

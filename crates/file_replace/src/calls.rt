@@ -1,11 +1,12 @@
 //! The calls that were made at a path of the host, for clauses alone.
 
 ghost use Rattle.std.specs.Prelude.{◌≡◌, ◌∷◌};
-ghost use Rattle.file_replace.specs.declared.calls.HeldCall.TheVariants.{Found, OpenFolder, Put, Stream};
+ghost use Rattle.file_replace.specs.declared.calls.HeldCall.TheVariants.{Asked, OpenFolder, Put, Stream};
 
 use crate::place::FolderSync;
 use crate::rights::Owner;
 use fork_disk::Record;
+use host_paths::{HostCall, HostCalls};
 use std::collections::LinkedList;
 
 /// A call of the system at a path, or on the file beside it.
@@ -41,17 +42,6 @@ pub struct Noted {
 /// The calls with their answers, the newest first, and the bytes that were given to each.
 pub type PlaceCalls = Record<(Noted, LinkedList<u8>)>;
 
-/// What a path leads to.
-#[derive(Clone, Copy, Debug, PartialEq, Eq)]
-pub enum Kind {
-    /// A regular file.
-    Regular,
-    /// Something else, as a device or a pipe.
-    Other,
-    /// Nothing so far.
-    Missing,
-}
-
 /// What a path has to have when a file is renamed to it.
 #[derive(Clone, Copy, Debug, PartialEq, Eq)]
 pub enum Wanted {
@@ -66,8 +56,8 @@ pub enum Wanted {
 /// What was done for a file.
 #[derive(Drop)]
 pub enum HeldCall {
-    /// It looked at what a path leads to, and this was found.
-    Found(Kind),
+    /// A path was opened to be written, or was to be, by these calls.
+    Asked(LinkedList<HostCall>),
     /// It was to open the folder in which a file is put, where the path has this, and whether it did.
     OpenFolder(Wanted, bool),
     /// A file was put at this path, or was to be, by these calls.
@@ -93,11 +83,11 @@ pub(crate) fn note_folder(log: &mut HeldCalls, wanted: Wanted, is_done: bool)
     *log = Record::of_events_beside(log, &wanted, &is_done);
 }
 
-/// Notes what a path leads to.
-pub(crate) fn note_kind(log: &mut HeldCalls, kind: Kind)
-    ensures { log.new.events ≡ Found kind ∷ log.old.events }
+/// Notes by which calls a path was opened.
+pub(crate) fn note_asked(log: &mut HeldCalls, asked: &HostCalls)
+    ensures { log.new.events ≡ Asked asked.now.events ∷ log.old.events }
 {
-    *log = Record::of_events_beside(log, &kind, &());
+    *log = Record::of_events_beside(log, asked, &());
 }
 
 /// Notes what was to be written to a stream.

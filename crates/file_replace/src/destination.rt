@@ -1,19 +1,20 @@
 //! Where a file is to be put: over a file, at a path that has none, or into a stream.
 
-ghost use Rattle.std.specs.Prelude.{◌≡◌, IfErr, IfOk, None, Some};
+ghost use Rattle.std.specs.Prelude.{◌≡◌, [], IfErr, IfOk, None, Some};
 ghost use Rattle.std.specs.Path.{path_buf_bytes};
-ghost use Rattle.file_replace.specs.Held.{BacksUp, IsUnopened, MakesOver, MakesPrepared, OpensAs, PreparesAt, PreparesHeld, backup_name, kind_of};
+ghost use Rattle.file_replace.specs.Held.{BacksUp, MakesOver, MakesPrepared, PreparesAt, PreparesHeld, backup_name};
+ghost use Rattle.file_replace.specs.Opening.{Asks, IsOpened, IsStream, IsUnopened, OpensAs};
 ghost use Rattle.file_replace.specs.declared.calls.Wanted.TheVariants.{Nothing, Same};
 
-use crate::calls::{HeldCalls, Kind};
-use crate::held::{Held, look, unopened};
+use crate::calls::{HeldCalls, note_asked};
+use crate::held::{Held, unopened};
 use crate::host_place::There;
-use crate::links::followed;
 use crate::prepared::{NewFile, Prepared, Stream, put_over};
 use crate::told::NotReplaced;
 use crate::world::FolderWorld;
+use host_paths::{Access, Found, HostCalls, followed, found_of, found_over, open};
 use std::alloc::AllocError;
-use std::fs::{File, OpenOptions};
+use std::fs::File;
 use std::path::PathBuf;
 
 /// A path that is open to be written.
@@ -40,54 +41,76 @@ pub struct OpenStream {
 }
 
 /// Opens what is no regular file. Nothing is made or emptied. What it is is asked of what was opened.
-fn open_stream(rt: &HostRuntime, path: &str) -> Result<File, NotReplaced>
-    ensures { IfErr result IsUnopened }
+fn open_stream(rt: &HostRuntime, path: &str, asked: &mut HostCalls) -> Result<File, NotReplaced>
+    ensures stream { IfOk result (λ file. IsStream path.now file asked.old.events asked.new.events) }
+    ensures refuses { IfErr result IsUnopened }
 {
-    let file = OpenOptions::new()
-        .write(true)
-        .open(rt, path)
-        .map_err(unopened)?;
-    if file.metadata().map_err(unopened)?.is_file() {
-        return Err(NotReplaced::Moved);
+    let file = match open(rt, path, Access::Write, asked) {
+        Ok(file) => file,
+        Err(error) => return Err(unopened(error)),
+    };
+    match found_of(&file, asked) {
+        Ok(here) if here.is_regular() => Err(NotReplaced::Moved),
+        Ok(_) => Ok(file),
+        Err(error) => Err(unopened(error)),
     }
-    Ok(file)
 }
 
 impl Destination {
     /// Opens a path that is to be written. A regular file is locked, and links are followed to it. At a path that has
     /// nothing, nothing is made. It fails where the path can't be looked up or opened, where another program holds the
-    /// file's lock, and where another puts something else at the path at the same time. What was found is noted.
+    /// file's lock, and where another puts something else at the path at the same time. What was asked is noted.
     pub fn open(
         rt: &HostRuntime,
         path: &str,
         log: &mut HeldCalls,
     ) -> Result<Destination, NotReplaced>
-        ensures { OpensAs kind_of result log.old.events log.new.events }
+        ensures { Asks (OpensAs path.now result) log.old.events log.new.events }
     {
-        match look(rt, path, log) {
-            Ok(kind) => Destination::open_as(rt, path, kind),
-            Err(refusal) => Err(refusal),
-        }
+        let mut asked = HostCalls::new();
+        let destination = Destination::open_at(rt, path, &mut asked);
+        note_asked(log, &asked);
+        destination
     }
 
-    /// Opens a path that leads to this.
-    fn open_as(rt: &HostRuntime, path: &str, kind: Kind) -> Result<Destination, NotReplaced>
-        ensures opened { IfOk result (λ destination. kind_of destination ≡ kind) }
-        ensures refuses { IfErr result IsUnopened }
+    /// The same, and notes each call.
+    fn open_at(
+        rt: &HostRuntime,
+        path: &str,
+        asked: &mut HostCalls,
+    ) -> Result<Destination, NotReplaced>
+        ensures { asked.old.events ≡ [] → OpensAs path.now result asked.new.events }
     {
-        match kind {
-            Kind::Regular => match Held::open_found(rt, path) {
-                Ok(held) => Ok(Destination::Existing(held)),
-                Err(refusal) => Err(refusal),
-            },
-            Kind::Missing => match followed(rt, path) {
+        match found_over(rt, path, asked) {
+            Ok(Some(found)) => Destination::open_found(rt, path, &found, asked),
+            Ok(None) => match followed(rt, path) {
                 Ok(path) => Ok(Destination::New(NewPath { path })),
                 Err(error) => Err(unopened(error)),
             },
-            Kind::Other => match open_stream(rt, path) {
+            Err(error) => Err(unopened(error)),
+        }
+    }
+
+    /// Opens what was found at a path.
+    fn open_found(
+        rt: &HostRuntime,
+        path: &str,
+        found: &Found,
+        asked: &mut HostCalls,
+    ) -> Result<Destination, NotReplaced>
+        ensures opened { IfOk result (λ destination. IsOpened path.now found.now destination asked.old.events asked.new.events) }
+        ensures refuses { IfErr result IsUnopened }
+    {
+        if found.is_regular() {
+            match Held::open_found(rt, path, found, asked) {
+                Ok(held) => Ok(Destination::Existing(held)),
+                Err(refusal) => Err(refusal),
+            }
+        } else {
+            match open_stream(rt, path, asked) {
                 Ok(file) => Ok(Destination::Stream(OpenStream { file })),
                 Err(refusal) => Err(refusal),
-            },
+            }
         }
     }
 

@@ -1,22 +1,18 @@
 //! A file that is open and locked, to be replaced.
 
-ghost use Rattle.std.specs.Prelude.{◌≡◌, IfErr};
-ghost use Rattle.file_replace.specs.Held.{IsUnopened, Looks, OpensAs};
-ghost use Rattle.file_replace.specs.declared.calls.Kind.TheVariants.{Regular};
+ghost use Rattle.std.specs.Prelude.{◌≡◌, [], IfErr, IfOk, OnOk};
+ghost use Rattle.file_replace.specs.Opening.{Asks, Holds, IsLocked, IsOwn, IsUnopened, OpensHeld, is_one, rights_of};
 
-use crate::calls::{HeldCalls, Kind, note_kind};
-use crate::host_place::owner_of;
-use crate::links::{followed, leads_to};
-use crate::rights::Rights;
+use crate::calls::{HeldCalls, note_asked};
+use crate::rights::{Owner, Rights};
 use crate::told::NotReplaced;
-use std::fs::{File, OpenOptions, TryLockError};
+use host_paths::{
+    Access, Found, HostCalls, Locking, followed, found_at, found_of, found_over, lock, open,
+};
+use std::fs::File;
+use std::io;
 use std::io::ErrorKind;
-use std::os::unix::fs::MetadataExt;
 use std::path::PathBuf;
-use std::{fs, io};
-
-/// The bits of a mode that say who may read, write and run a file, and the special ones.
-const MODE_BITS: u32 = 0o7777;
 
 /// A file that is open to be replaced. It is locked until this is dropped or put, so read it after it is opened.
 #[derive(Drop)]
@@ -38,90 +34,112 @@ pub(crate) fn unopened(error: io::Error) -> NotReplaced
     }
 }
 
-/// What a path leads to, over links. It is noted.
-pub(crate) fn look(rt: &HostRuntime, path: &str, log: &mut HeldCalls) -> Result<Kind, NotReplaced>
-    ensures { Looks result log.old.events log.new.events }
-{
-    let kind = match fs::metadata(rt, path) {
-        Ok(found) if found.is_file() => Kind::Regular,
-        Ok(_) => Kind::Other,
-        Err(error) if error.kind() == ErrorKind::NotFound => Kind::Missing,
-        Err(error) => return Err(unopened(error)),
-    };
-    note_kind(log, kind);
-    Ok(kind)
-}
-
 /// Locks a file against others that do so. Where the file system has no locks, there is none.
-fn lock(file: &File) -> Result<(), NotReplaced>
-    ensures { IfErr result IsUnopened }
+fn lock_it(file: &File, asked: &mut HostCalls) -> Result<(), NotReplaced>
+    ensures locked { OnOk result (IsLocked file.now asked.old.events asked.new.events) }
+    ensures refuses { IfErr result IsUnopened }
 {
-    match file.try_lock() {
-        Ok(()) => Ok(()),
-        Err(TryLockError::WouldBlock) => Err(NotReplaced::InUse),
-        Err(TryLockError::Error(error)) if error.kind() == ErrorKind::Unsupported => Ok(()),
-        Err(TryLockError::Error(error)) => Err(NotReplaced::Open(error)),
+    match lock(file, asked) {
+        Ok(Locking::Taken) | Ok(Locking::NotOffered) => Ok(()),
+        Ok(Locking::Busy) => Err(NotReplaced::InUse),
+        Err(error) => Err(NotReplaced::Open(error)),
     }
 }
 
-/// Whether an open file is a regular one, and this path is its own.
-fn is_there(rt: &HostRuntime, path: &PathBuf, file: &File) -> io::Result<bool> {
-    Ok(file.metadata()?.is_file() && leads_to(rt, path, file)?)
-}
-
-/// Opens the regular file of a path that is no link, and locks it.
-fn open_locked(rt: &HostRuntime, path: &PathBuf) -> Result<File, NotReplaced>
-    ensures { IfErr result IsUnopened }
+/// Whether what a path led to, what was opened, and what is at the path that was opened are one regular file.
+fn is_one(found: &Found, here: &Found, there: &Found) -> bool
+    ensures { result ≡ is_one found.now here.now there.now }
 {
-    let file = OpenOptions::new()
-        .read(true)
-        .write(true)
-        .open(rt, path)
-        .map_err(unopened)?;
-    lock(&file)?;
-    if !is_there(rt, path, &file).map_err(unopened)? {
-        return Err(NotReplaced::Moved);
-    }
-    Ok(file)
+    here.is_regular() && here.is_same(found) && there.is_same(here)
 }
 
-/// To whom an open file belongs, its mode, and how many names it has.
-fn rights_of(file: &File) -> io::Result<(Rights, u64)> {
-    let found = file.metadata()?;
-    let rights = Rights {
-        owner: owner_of(file)?,
-        mode: found.mode() & MODE_BITS,
-    };
-    Ok((rights, found.nlink()))
+/// To whom a file belongs, and its mode.
+fn rights_of(found: &Found) -> Rights
+    ensures { result ≡ rights_of found.now }
+{
+    Rights {
+        owner: Owner {
+            user: found.user,
+            group: found.group,
+        },
+        mode: found.mode,
+    }
 }
 
 impl Held {
     /// Opens a regular file that is to be replaced, and locks it. A link is followed: the file that it leads to is
     /// replaced. It fails where there is none, or no regular file, where it may not be read and written, where another
-    /// program holds its lock, and where another replaces it at the same time. What was found is noted.
+    /// program holds its lock, and where another replaces it at the same time. What was asked is noted.
     pub fn open(rt: &HostRuntime, path: &str, log: &mut HeldCalls) -> Result<Held, NotReplaced>
-        ensures { OpensAs (λ _. Regular) result log.old.events log.new.events }
+        ensures { Asks (OpensHeld path.now result) log.old.events log.new.events }
     {
-        match look(rt, path, log)? {
-            Kind::Regular => Held::open_found(rt, path),
-            Kind::Other => Err(NotReplaced::NotAFile),
-            Kind::Missing => Err(NotReplaced::Open(ErrorKind::NotFound.into())),
+        let mut asked = HostCalls::new();
+        let held = Held::open_at(rt, path, &mut asked);
+        note_asked(log, &asked);
+        held
+    }
+
+    /// The same, and notes each call.
+    fn open_at(rt: &HostRuntime, path: &str, asked: &mut HostCalls) -> Result<Held, NotReplaced>
+        ensures { asked.old.events ≡ [] → OpensHeld path.now result asked.new.events }
+    {
+        match found_over(rt, path, asked) {
+            Ok(Some(found)) if found.is_regular() => Held::open_found(rt, path, &found, asked),
+            Ok(Some(_)) => Err(NotReplaced::NotAFile),
+            Ok(None) => Err(NotReplaced::Open(ErrorKind::NotFound.into())),
+            Err(error) => Err(unopened(error)),
         }
     }
 
     /// Opens the regular file that was found at a path.
-    pub(crate) fn open_found(rt: &HostRuntime, path: &str) -> Result<Held, NotReplaced>
-        ensures { IfErr result IsUnopened }
+    pub(crate) fn open_found(
+        rt: &HostRuntime,
+        path: &str,
+        found: &Found,
+        asked: &mut HostCalls,
+    ) -> Result<Held, NotReplaced>
+        ensures holds { IfOk result (λ held. Holds held found.now asked.old.events asked.new.events) }
+        ensures refuses { IfErr result IsUnopened }
     {
-        let path = followed(rt, path).map_err(unopened)?;
-        let file = open_locked(rt, &path)?;
-        let (rights, names) = rights_of(&file).map_err(unopened)?;
-        Ok(Held {
-            file,
-            path,
-            rights,
-            names,
-        })
+        let path = match followed(rt, path) {
+            Ok(path) => path,
+            Err(error) => return Err(unopened(error)),
+        };
+        let file = match open(rt, path.as_str(), Access::Both, asked) {
+            Ok(file) => file,
+            Err(error) => return Err(unopened(error)),
+        };
+        match lock_it(&file, asked) {
+            Ok(()) => Held::locked(rt, path, file, found, asked),
+            Err(refusal) => Err(refusal),
+        }
+    }
+
+    /// What was opened and locked, if it is the file that was found, and this path is its own.
+    fn locked(
+        rt: &HostRuntime,
+        path: PathBuf,
+        file: File,
+        found: &Found,
+        asked: &mut HostCalls,
+    ) -> Result<Held, NotReplaced>
+        ensures own { IfOk result (λ held. IsOwn held path file found.now asked.old.events asked.new.events) }
+        ensures refuses { IfErr result IsUnopened }
+    {
+        let here = match found_of(&file, asked) {
+            Ok(here) => here,
+            Err(error) => return Err(unopened(error)),
+        };
+        match found_at(rt, path.as_str(), asked) {
+            Ok(Some(there)) if is_one(found, &here, &there) => Ok(Held {
+                file,
+                path,
+                rights: rights_of(&here),
+                names: here.names,
+            }),
+            Ok(_) => Err(NotReplaced::Moved),
+            Err(error) => Err(unopened(error)),
+        }
     }
 
     /// The open file, to read it.

@@ -1,22 +1,28 @@
 //! A path of the host.
 
-ghost use Rattle.std.specs.Prelude.{◌≡◌, [], ◌∷◌, is_ok, is_some, IfOk, None, Ok};
+ghost use Rattle.std.specs.Prelude.{◌≡◌, [], ◌∷◌, true, is_ok, is_some, IfErr, IfOk, OnOk, None, Ok};
+ghost use Rattle.std.specs.Path.{path_buf_bytes};
 ghost use Rattle.fork_disk.specs.Disk.{Counts};
+ghost use Rattle.file_replace.specs.Beneath.{Has, MakesIt, RemovesIt, RenamesIt};
 ghost use Rattle.file_replace.specs.Calls.{seen_at};
-ghost use Rattle.file_replace.specs.Held.{leaves, wanted_of};
+ghost use Rattle.file_replace.specs.OnPlace.{Does};
+ghost use Rattle.file_replace.specs.Place.{IsClear};
+ghost use Rattle.file_replace.specs.declared.calls.Call.TheVariants as calls;
+ghost use Rattle.file_replace.specs.Held.{wanted_of};
 ghost use Rattle.file_replace.specs.declared.calls.HeldCall.TheVariants.{OpenFolder};
 
-use crate::beside::Beside;
 use crate::calls::{Call, HeldCalls, Noted, PlaceCalls, Wanted, note, note_folder};
-use crate::links::{folder_name, is_free, leads_to};
 use crate::place::{FolderSync, Replaces};
 use crate::rights::Owner;
 use crate::world::FolderWorld;
 use fork_disk::Record;
+use host_paths::{
+    Beside, HostCalls, folder_name, found_at, found_of, leads_to, longest_file, write_whole,
+};
 use std::fs::{File, Permissions};
-use std::io::{ErrorKind, Write};
+use std::io::ErrorKind;
 use std::marker::PhantomData;
-use std::os::unix::fs::{MetadataExt, PermissionsExt, fchown};
+use std::os::unix::fs::{PermissionsExt, fchown};
 use std::path::PathBuf;
 use std::{fs, io};
 
@@ -44,23 +50,9 @@ pub struct FileReplacer<'a, W: FolderWorld> {
     beside: Option<Beside<'a>>,
     failures: u64,
     log: PlaceCalls,
+    /// The calls at its path and beside it.
+    asked: HostCalls,
     world: PhantomData<W>,
-}
-
-/// The limit that a line of the kernel's list gives, where it is that of a file's length. No number means no
-/// limit.
-fn limit_in(line: &str) -> Option<u64> {
-    let limits = line.strip_prefix("Max file size")?;
-    limits.split_whitespace().next()?.parse().ok()
-}
-
-/// How many bytes long a regular file may be that this process writes, as Linux says: a write past that ends the
-/// process. Elsewhere, and where there is no limit, it is the largest number.
-pub fn longest_file(rt: &HostRuntime) -> u64 {
-    match fs::read_to_string(rt, "/proc/self/limits") {
-        Ok(limits) => limits.lines().find_map(limit_in).unwrap_or(u64::MAX),
-        Err(_) => u64::MAX,
-    }
 }
 
 /// Opens the folder of a path, to sync it, if its mode lets it be read.
@@ -72,29 +64,16 @@ fn open_folder(rt: &HostRuntime, path: &PathBuf) -> io::Result<Option<File>> {
     }
 }
 
-/// Writes all these bytes to a file, where it may be so long.
-fn write_whole(rt: &HostRuntime, file: &mut File, bytes: &[u8]) -> io::Result<()> {
-    if bytes.len() as u64 > longest_file(rt) {
-        return Err(ErrorKind::FileTooLarge.into());
-    }
-    file.write_all(bytes)
-}
-
-/// To whom an open file belongs.
-pub(crate) fn owner_of(file: &File) -> io::Result<Owner> {
-    let found = file.metadata()?;
-    Ok(Owner {
-        user: found.uid(),
-        group: found.gid(),
-    })
-}
-
 /// Gives a file an owner and a group, or else the group alone, and returns those that it has then.
 fn give(file: &File, owner: Owner) -> io::Result<Owner> {
     if fchown(file, Some(owner.user), Some(owner.group)).is_err() {
         let _ = fchown(file, None, Some(owner.group));
     }
-    owner_of(file)
+    let found = found_of(file, &mut HostCalls::new())?;
+    Ok(Owner {
+        user: found.user,
+        group: found.group,
+    })
 }
 
 /// What a path has to have, as it is noted.
@@ -109,10 +88,12 @@ fn wanted_of(there: &There) -> Wanted
 }
 
 /// Whether a path has what it has to have.
-fn has(rt: &HostRuntime, path: &PathBuf, there: &There) -> io::Result<bool> {
+fn has(rt: &HostRuntime, path: &str, there: &There, asked: &mut HostCalls) -> io::Result<bool>
+    ensures { IfOk result (λ is. Has there.now path.now is asked.old.events asked.new.events) }
+{
     match there {
-        There::This(file) => leads_to(rt, path, file),
-        There::Nothing => is_free(rt, path),
+        There::This(file) => leads_to(rt, path, file, asked),
+        There::Nothing => Ok(found_at(rt, path, asked)?.is_none()),
         There::Anything => Ok(true),
     }
 }
@@ -128,6 +109,8 @@ impl<'a, W: FolderWorld> FileReplacer<'a, W> {
         log: &mut HeldCalls,
     ) -> io::Result<FileReplacer<'a, W>>
         ensures start { IfOk result (λ place. place.log.events ≡ []) }
+        ensures path { IfOk result (λ place. path_buf_bytes place.path ≡ path_buf_bytes path.now) }
+        ensures there { IfOk result (λ place. place.there ≡ there) }
         ensures opens { log.new.events ≡ OpenFolder (wanted_of there) (is_ok result) ∷ log.old.events }
     {
         let wanted = wanted_of(&there);
@@ -138,7 +121,9 @@ impl<'a, W: FolderWorld> FileReplacer<'a, W> {
 
     /// The place of a path, whose folder is opened.
     fn opened(rt: &'a HostRuntime, path: &PathBuf, there: There) -> io::Result<FileReplacer<'a, W>>
-        ensures { IfOk result (λ place. place.log.events ≡ []) }
+        ensures start { IfOk result (λ place. place.log.events ≡ []) }
+        ensures path { IfOk result (λ place. path_buf_bytes place.path ≡ path_buf_bytes path.now) }
+        ensures there { IfOk result (λ place. place.there ≡ there) }
     {
         Ok(FileReplacer {
             rt,
@@ -148,6 +133,7 @@ impl<'a, W: FolderWorld> FileReplacer<'a, W> {
             beside: None,
             failures: 0,
             log: Record::new(),
+            asked: HostCalls::new(),
             world: PhantomData,
         })
     }
@@ -161,12 +147,17 @@ impl<'a, W: FolderWorld> FileReplacer<'a, W> {
 
     /// The path of the file that was made beside and neither renamed nor removed, if there is one. It stays there.
     pub fn into_left(self) -> Option<PathBuf>
-        ensures { is_some result ≡ leaves self.entry.beside }
+        ensures { is_some result ≡ is_some self.entry.beside }
     {
-        let FileReplacer { beside, .. } = self;
-        match beside {
-            Some(beside) => beside.into_path(),
-            None => None,
+        self.beside.map(Beside::into_path)
+    }
+
+    /// The file beside is renamed or removed.
+    fn forget(&mut self)
+        ensures { self.new ≡ record self.old { beside = None } }
+    {
+        if let Some(beside) = self.beside.take() {
+            let _ = beside.into_path();
         }
     }
 
@@ -180,6 +171,7 @@ impl<'a, W: FolderWorld> FileReplacer<'a, W> {
         ensures cause { Counts self.old.failures self.new.failures result }
         ensures same { result ≡ answer }
         ensures beside { self.new.beside ≡ self.old.beside }
+        ensures asked { self.new.asked ≡ self.old.asked }
         ensures noted { self.new.log.events ≡ (record { call = call; is_done = is_ok answer }, bytes.now) ∷ self.old.log.events }
     {
         let is_done = answer.is_ok();
@@ -212,12 +204,17 @@ impl<'a, W: FolderWorld> Replaces for FileReplacer<'a, W> {
 
     ghost seen = { λ place. seen_at W.held place.log.events };
 
-    ghost may_leave = { λ place. leaves place.beside };
+    ghost may_leave = { λ place. is_some place.beside };
 
     ghost failures = { λ place. place.failures };
 
-    fn create(&mut self, is_private: bool) -> io::Result<()> {
-        let answer = match Beside::make(self.rt, &self.path, is_private) {
+    fn create(&mut self, is_private: bool) -> io::Result<()>
+        requires { IsClear (seen_at W.held self.old.log.events) }
+        ensures creates { Does (calls.Create is_private) (is_ok result) [] (seen_at W.held self.old.log.events) (seen_at W.held self.new.log.events) }
+        ensures cause { Counts self.old.failures self.new.failures result }
+        ensures made { MakesIt (path_buf_bytes self.old.path) is_private self.new.beside result self.new.asked.events }
+    {
+        let answer = match Beside::make(self.rt, &self.path, is_private, &mut self.asked) {
             Ok(beside) => {
                 self.beside = Some(beside);
                 Ok(())
@@ -229,7 +226,7 @@ impl<'a, W: FolderWorld> Replaces for FileReplacer<'a, W> {
 
     fn write(&mut self, bytes: &[u8]) -> io::Result<()> {
         let answer = match &mut self.beside {
-            Some(beside) => write_whole(self.rt, beside.file(), bytes),
+            Some(beside) => write_whole(beside.file(), bytes, longest_file(self.rt)),
             None => Err(ErrorKind::NotFound.into()),
         };
         self.answered(Call::Write, bytes, answer)
@@ -263,8 +260,12 @@ impl<'a, W: FolderWorld> Replaces for FileReplacer<'a, W> {
         self.answered(Call::Sync, &[], answer)
     }
 
-    fn check(&mut self) -> io::Result<()> {
-        let answer = match has(self.rt, &self.path, &self.there) {
+    fn check(&mut self) -> io::Result<()>
+        ensures checks { Does calls.Check (is_ok result) [] (seen_at W.held self.old.log.events) (seen_at W.held self.new.log.events) }
+        ensures cause { Counts self.old.failures self.new.failures result }
+        ensures asked { OnOk result (Has self.old.there (path_buf_bytes self.old.path) true self.old.asked.events self.new.asked.events) }
+    {
+        let answer = match has(self.rt, self.path.as_str(), &self.there, &mut self.asked) {
             Ok(true) => Ok(()),
             Ok(false) => Err(io::Error::other("it leads to another file")),
             Err(error) => Err(error),
@@ -272,13 +273,17 @@ impl<'a, W: FolderWorld> Replaces for FileReplacer<'a, W> {
         self.answered(Call::Check, &[], answer)
     }
 
-    fn rename(&mut self) -> io::Result<()> {
-        let answer = match &mut self.beside {
-            Some(beside) => beside.rename(&self.path),
+    fn rename(&mut self) -> io::Result<()>
+        ensures renames { Does calls.Rename (is_ok result) [] (seen_at W.held self.old.log.events) (seen_at W.held self.new.log.events) }
+        ensures cause { Counts self.old.failures self.new.failures result }
+        ensures renamed { RenamesIt self.old.beside (path_buf_bytes self.old.path) result self.old.asked.events self.new.asked.events }
+    {
+        let answer = match &self.beside {
+            Some(beside) => beside.rename(&self.path, &mut self.asked),
             None => Err(ErrorKind::NotFound.into()),
         };
         if answer.is_ok() {
-            self.beside = None;
+            self.forget();
         }
         self.answered(Call::Rename, &[], answer)
     }
@@ -292,13 +297,18 @@ impl<'a, W: FolderWorld> Replaces for FileReplacer<'a, W> {
         self.answered(Call::SyncFolder(told), &[], answer)
     }
 
-    fn remove(&mut self) -> io::Result<()> {
-        let answer = match &mut self.beside {
-            Some(beside) => beside.remove(),
+    fn remove(&mut self) -> io::Result<()>
+        ensures removes { Does calls.Remove (is_ok result) [] (seen_at W.held self.old.log.events) (seen_at W.held self.new.log.events) }
+        ensures left { IfErr result (λ _. is_some self.new.beside ≡ true) }
+        ensures cause { Counts self.old.failures self.new.failures result }
+        ensures removed { RemovesIt self.old.beside result self.old.asked.events self.new.asked.events }
+    {
+        let answer = match &self.beside {
+            Some(beside) => beside.remove(&mut self.asked),
             None => Ok(()),
         };
         if answer.is_ok() {
-            self.beside = None;
+            self.forget();
         }
         self.answered(Call::Remove, &[], answer)
     }

@@ -2,16 +2,12 @@
 //! and the new one gives nobody more than the old one did.
 #![tactic(auto)]
 
-mod beside;
 mod calls;
 mod destination;
 mod held;
 mod host_place;
-mod identity;
 mod laws;
-mod links;
 mod mem_place;
-pub mod new_folder;
 mod pair;
 mod place;
 mod prepared;
@@ -20,14 +16,12 @@ mod rights;
 mod told;
 mod world;
 
-pub use calls::{Call, HeldCall, HeldCalls, Kind, Noted, PlaceCalls, Wanted};
+pub use calls::{Call, HeldCall, HeldCalls, Noted, PlaceCalls, Wanted};
 pub use destination::{Destination, NewPath, OpenStream};
 pub use held::Held;
-pub use host_place::{FileReplacer, There, longest_file};
-pub use identity::Identity;
+pub use host_place::{FileReplacer, There};
 pub use laws::crash_laws;
 pub use mem_place::{MemFile, MemPlace};
-pub use new_folder::{FolderCalls, InnerFolder, NewFolder, NoNewFolder};
 pub use pair::{PairFault, put_both as put_both_places};
 pub use place::{Event, FolderSync, PlainFile, Replaces};
 pub use prepared::{Difference, Losses, NewFile, NotBoth, Outcome, Prepared, Stream, put_both};

@@ -6,7 +6,7 @@ ghost use Rattle.file_replace.specs.declared.calls.HeldCall.TheVariants as HeldC
 ghost use Rattle.file_replace.specs.declared.calls.HeldCall.TheVariants.{Put};
 ghost use Rattle.file_replace.specs.declared.replacement.Step.TheVariants.{Create};
 ghost use Rattle.file_replace.specs.Pair.{LeftOfBoth};
-ghost use Rattle.file_replace.specs.Held.{EndsBoth, GivesUp, GivesUpPrepared, MakesFile, PutsFile, PutsFiles, PutsInTurn, PutsOver, PutsPrepared, PutsTwo, difference, fault_of, leaves, losses_by, prepared_losses, wanted_of};
+ghost use Rattle.file_replace.specs.Held.{EndsBoth, GivesUp, GivesUpPrepared, MakesFile, PutsFile, PutsFiles, PutsInTurn, PutsOver, PutsPrepared, PutsTwo, difference, fault_of, losses_by, prepared_losses, wanted_of};
 
 use crate::calls::{HeldCalls, PlaceCalls, note_at, note_stream};
 use crate::host_place::{FileReplacer, There};
@@ -110,7 +110,7 @@ fn shut(error: io::Error) -> Stop
 
 /// The path of the file that is left beside a place, where one is.
 fn left_of<F: FolderWorld>(place: FileReplacer<'_, F>, is_left: bool) -> Option<PathBuf>
-    requires { is_left ≡ true → leaves place.beside ≡ true }
+    requires { is_left ≡ true → is_some place.beside ≡ true }
     ensures { is_some result ≡ is_left }
 {
     if is_left { place.into_left() } else { None }
@@ -118,7 +118,7 @@ fn left_of<F: FolderWorld>(place: FileReplacer<'_, F>, is_left: bool) -> Option<
 
 /// Why a file wasn't put, with the path of the file that is left beside.
 fn stopped<F: FolderWorld>(place: FileReplacer<'_, F>, fault: Fault<io::Error>) -> Stop
-    requires { fault.is_left ≡ true → leaves place.beside ≡ true }
+    requires { fault.is_left ≡ true → is_some place.beside ≡ true }
     ensures { fault_of result ≡ fault }
 {
     let Fault {
@@ -315,7 +315,7 @@ fn not_both<F: FolderWorld, G: FolderWorld>(
     other: FileReplacer<'_, G>,
     fault: PairFault<io::Error, io::Error>,
 ) -> NotBoth
-    requires { LeftOfBoth (Err fault) (leaves one.beside) (leaves other.beside) }
+    requires { LeftOfBoth (Err fault) (is_some one.beside) (is_some other.beside) }
     ensures { EndsBoth (λ end. end ≡ Err fault) (Err result) }
 {
     match fault {

@@ -2,9 +2,9 @@
 use Rattle.std.proofs.Common.{◌≡◌, ℕ, suc, ◌+◌, ◌<◌, true, false, Bool, if◌then◌else◌, List, [], ◌∷◌, ◌++◌, length, get_or, map, drop, Option, None, Some, Result, Ok, Err, inr, refl, sym, ap, subst, ◌∙◌, add-one, append_assoc}
 use Rattle.std.specs.Prelude.{bytes_eq, codes}
 use Rattle.std.proofs.Math.Seq.{drop-cons}
-use Rattle.file_replace.specs.declared.new_folder.FolderCall.{FolderCall}
-use Rattle.file_replace.specs.NewFolder.{Event, Makes, StopsIn, event, path_below, with_file, with_folder}
-use Rattle.file_replace.specs.declared.new_folder.FolderCall.TheVariants.{Begin, MakeFolder, OpenFolder, MakeFile, Write}
+use Rattle.new_folder.specs.declared.calls.FolderCall.{FolderCall}
+use Rattle.new_folder.specs.NewFolder.{Event, Makes, StopsIn, event, path_below, with_file, with_folder}
+use Rattle.new_folder.specs.declared.calls.FolderCall.TheVariants.{Begin, MakeFolder, OpenFolder, MakeFile, Write}
 use Rattle.fork_folder.specs.Unpacked.{Unpacked}
 use Rattle.fork_view.specs.Unpacking.{Unpacks, all_calls, entered, files_calls, opened_folder, with_unpacked}
 

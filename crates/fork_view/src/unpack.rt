@@ -1,16 +1,16 @@
 //! The resources of a fork written to a folder.
 
 ghost use Rattle.std.specs.Prelude.{◌≡◌, None, IfOk, codes, map, option_map};
-ghost use Rattle.file_replace.specs.NewFolder.{Makes, with_file, with_folder};
+ghost use Rattle.new_folder.specs.NewFolder.{Makes, with_file, with_folder};
 ghost use Rattle.fork_folder.specs.Unpacked.{unpacked, unpacked_file};
 ghost use Rattle.fork_view.specs.Unpacking.{Unpacks, all_calls, entered, files_calls, opened_folder, with_unpacked};
 
 use crate::manifest::manifest_of;
-use file_replace::{FolderCalls, InnerFolder, NewFolder, NoNewFolder};
 use fork_bytes::table::Table;
 use fork_folder::files::File as Unpacked;
 use fork_folder::unpacked;
 use mac_base::resource::ResType;
+use new_folder::{FolderCalls, InnerFolder, NewFolder, NoNewFolder};
 use path_text::FileName;
 use std::alloc::{AllocError, Global};
 use std::io;

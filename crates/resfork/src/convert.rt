@@ -10,11 +10,11 @@ use crate::message::{DONE, Problem};
 use crate::order::{Order, order_of};
 use crate::save::{OUTPUT, Ready, put_two, save_to};
 use crate::{INPUT, fork_found, read, read_other, table_found};
-use file_replace::Identity;
 use fork_answer::Failure;
 use fork_edit::convert::{Loss, NotConverted, Rewritten, Transfer, converted, file_of, holds_data};
 use fork_list::byte_of;
 use fork_report::Refusal;
+use host_paths::{HostCalls, Identity};
 use mac_files::bin_hex::is_bin_hex;
 use mac_files::container::{Container, Version};
 use mac_files::container_of;
@@ -126,7 +126,7 @@ fn identity_of(host: &Host<'_>, path: &str) -> Option<Identity> {
     if path == OUTPUT {
         return None;
     }
-    Identity::of_path(host.rt, path).ok()
+    Identity::of_path(host.rt, path, &mut HostCalls::new()).ok()
 }
 
 /// In which order the new file and the data fork's file are put.

@@ -1,0 +1,74 @@
+-- How a path is opened to be written, by the calls of the system, of which the newest comes first.
+use Rattle.std.specs.Prelude.{◌≡◌, ⊤, ◌⊎◌, ℕ, ◌&&◌, Bool, true, false, List, [], ◌∷◌, Some, Result, Ok, Err}
+use Rattle.std.specs.Path.{path_buf_bytes}
+use Rattle.std.specs.Global.{Global}
+use Rattle.std.specs.declared.fs.File.{File}
+use Rattle.std.specs.declared.path.buf.PathBuf.{PathBuf}
+use Rattle.host_paths.specs.Asked.{Log, is_regular, same_file}
+use Rattle.host_paths.specs.declared.host.Access.TheVariants.{Both, Write}
+use Rattle.host_paths.specs.declared.host.Answer.TheVariants.{Is, Nothing}
+use Rattle.host_paths.specs.declared.host.Found.{Found}
+use Rattle.host_paths.specs.declared.host.HostCall.{HostCall}
+use Rattle.host_paths.specs.declared.host.HostCall.TheVariants.{At, Over, Of, Open, Lock}
+use Rattle.host_paths.specs.declared.host.Locking.TheVariants.{Taken, NotOffered}
+use Rattle.file_replace.specs.declared.calls.HeldCall.{HeldCall}
+use Rattle.file_replace.specs.declared.calls.HeldCall.TheVariants.{Asked}
+use Rattle.file_replace.specs.declared.destination.Destination.{Destination}
+use Rattle.file_replace.specs.declared.destination.Destination.TheVariants as destinations
+use Rattle.file_replace.specs.declared.held.Held.{Held}
+use Rattle.file_replace.specs.declared.rights.Rights.{Rights}
+use Rattle.file_replace.specs.declared.told.NotReplaced.{NotReplaced}
+use Rattle.file_replace.specs.declared.told.NotReplaced.TheVariants as refusals
+
+-- it was asked by calls that have P, and they are noted
+abbrev pub Asks : (List HostCall → Type 0) → List HeldCall → List HeldCall → Type 0
+Asks P old new = (calls : List HostCall) × P calls × (new ≡ Asked calls ∷ old)
+
+-- the path wasn't opened: no file was to be put yet
+abbrev pub IsUnopened : NotReplaced → Type 0
+IsUnopened (refusals.Stopped stop) = ⊥
+IsUnopened (refusals.NoBackup name stop) = ⊥
+IsUnopened (refusals.Stream error) = ⊥
+IsUnopened refusal = ⊤
+
+-- a file was locked, or its file system has no locks
+abbrev pub IsLocked : File → Log → Log → Type 0
+IsLocked file old new = (new ≡ Lock file (Some Taken) ∷ old) ⊎ (new ≡ Lock file (Some NotOffered) ∷ old)
+
+-- what a path led to, what was opened, and what is at the path that was opened are one regular file
+abbrev pub is_one : Found → Found → Found → Bool
+is_one found here there = is_regular here.kind && same_file here found && same_file there here
+
+-- to whom a file belongs, and its mode
+abbrev pub rights_of : Found → Rights
+rights_of found = record { owner = record { user = found.user; group = found.group }; mode = found.mode }
+
+-- this file is the one that was found, this path is its own, and these are its rights
+abbrev pub IsOwn : Held → PathBuf Global → File → Found → Log → Log → Type 0
+IsOwn held path file found old new = (here : Found) × (there : Found) × (is_one found here there ≡ true)
+    × (held ≡ record { file = file; path = path; rights = rights_of here; names = here.names }) × (new ≡ At (path_buf_bytes path) (Is there) ∷ Of file (Is here) ∷ old)
+
+-- it was opened to be read and written, locked, and is the one that was found
+abbrev pub Holds : Held → Found → Log → Log → Type 0
+Holds held found old new = (mid : Log) × IsLocked held.file (Open Both (path_buf_bytes held.path) (Some held.file) ∷ old) mid × IsOwn held held.path held.file found mid new
+
+-- a path was asked for, and the regular file that it led to is held
+abbrev pub OpensHeld : List ℕ → Result Held NotReplaced → Log → Type 0
+OpensHeld path (Ok held) new = (found : Found) × (is_regular found.kind ≡ true) × Holds held found (Over path (Is found) ∷ []) new
+OpensHeld path (Err refusal) new = IsUnopened refusal
+
+-- what was opened isn't a regular file
+abbrev pub IsStream : List ℕ → File → Log → Log → Type 0
+IsStream path file old new = (here : Found) × (is_regular here.kind ≡ false) × (new ≡ Of file (Is here) ∷ Open Write path (Some file) ∷ old)
+
+-- what was found at a path was opened
+abbrev pub IsOpened : List ℕ → Found → Destination → Log → Log → Type 0
+IsOpened path found (destinations.Existing held) old new = (is_regular found.kind ≡ true) × Holds held found old new
+IsOpened path found (destinations.Stream stream) old new = (is_regular found.kind ≡ false) × IsStream path stream.file old new
+IsOpened path found (destinations.New it) old new = ⊥
+
+-- a path was asked for, and it is open as what it led to, or it has nothing
+abbrev pub OpensAs : List ℕ → Result Destination NotReplaced → Log → Type 0
+OpensAs path (Ok (destinations.New it)) new = new ≡ Over path Nothing ∷ []
+OpensAs path (Ok destination) new = (found : Found) × IsOpened path found destination (Over path (Is found) ∷ []) new
+OpensAs path (Err refusal) new = IsUnopened refusal

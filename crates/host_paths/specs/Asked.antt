@@ -1,0 +1,77 @@
+-- Calls of the system at paths and on open files, and what follows from their answers.
+use Rattle.std.specs.Prelude.{◌≡◌, ◌⊎◌, ℕ, ◌==◌, ◌&&◌, Bool, true, false, if◌then◌else◌, bytes_eq, codes, List, [], ◌∷◌, Option, Some, None, IfSome, Result, Ok, Err, string_bytes, unwrap_or}
+use Rattle.std.specs.Path.{path_file_name, path_parent}
+use Rattle.std.specs.declared.fs.File.{File}
+use Rattle.host_paths.specs.declared.host.Access.TheVariants.{Read}
+use Rattle.host_paths.specs.declared.host.Answer.{Answer}
+use Rattle.host_paths.specs.declared.host.Answer.TheVariants.{Is, Nothing, Failed}
+use Rattle.host_paths.specs.declared.host.FileKind.{FileKind}
+use Rattle.host_paths.specs.declared.host.FileKind.TheVariants as kinds
+use Rattle.host_paths.specs.declared.host.Found.{Found}
+use Rattle.host_paths.specs.declared.host.HostCall.{HostCall}
+use Rattle.host_paths.specs.declared.host.HostCall.TheVariants.{At, Over, Of, Open, Lock}
+use Rattle.host_paths.specs.declared.host.Locking.{Locking}
+use Rattle.host_paths.specs.declared.host.Locking.TheVariants.{Taken}
+use Rattle.host_paths.specs.declared.identity.Identity.{Identity}
+
+-- the calls, the newest first
+abbrev pub Log : Type 0
+Log = List HostCall
+
+-- an answer as it is noted
+abbrev pub answer_of : {E : Type 0} → Result (Option Found) E → Answer
+answer_of (Ok (Some found)) = Is found
+answer_of (Ok None) = Nothing
+answer_of (Err error) = Failed
+
+-- the same of a file that is open
+abbrev pub said_of : {E : Type 0} → Result Found E → Answer
+said_of (Ok found) = Is found
+said_of (Err error) = Failed
+
+-- the file that was opened, if one was
+abbrev pub opened : {E : Type 0} → Result File E → Option File
+opened (Ok file) = Some file
+opened (Err error) = None
+
+-- how a file was locked, if the call didn't fail
+abbrev pub lock_answer : {E : Type 0} → Result Locking E → Option Locking
+lock_answer (Ok locking) = Some locking
+lock_answer (Err error) = None
+
+-- a regular file
+abbrev pub is_regular : FileKind → Bool
+is_regular kinds.Regular = true
+is_regular kind = false
+
+-- a folder
+abbrev pub is_folder : FileKind → Bool
+is_folder kinds.Folder = true
+is_folder kind = false
+
+-- two that were found are one file
+abbrev pub same_file : Found → Found → Bool
+same_file one other = one.device == other.device && one.number == other.number
+
+-- a path was asked for, and then an open file: the path has nothing, or it is the file's own, or another's
+abbrev pub LeadsTo : List ℕ → File → Bool → Log → Log → Type 0
+LeadsTo path file is old new = ((is ≡ false) × (new ≡ At path Nothing ∷ old))
+    ⊎ ((there : Found) × (here : Found) × (is ≡ same_file there here) × (new ≡ Of file (Is here) ∷ At path (Is there) ∷ old))
+
+-- at most a path was asked for, and then an open file
+abbrev pub AsksBoth : List ℕ → File → Log → Log → Type 0
+AsksBoth path file old new = ((answer : Answer) × (new ≡ At path answer ∷ old)) ⊎ ((answer : Answer) × (here : Answer) × (new ≡ Of file here ∷ At path answer ∷ old))
+
+-- the folder of a path, as it is opened
+abbrev pub folder_name : List ℕ → List ℕ
+folder_name path = let folder = unwrap_or (path_parent path) [] in if bytes_eq folder [] then codes "." else folder
+
+-- this is the folder of a path, which was asked for, with the name that the path has in it
+abbrev pub Names : Identity → Log → Log → Type 0
+Names it old new = (to : List ℕ) × (found : Found) × (it.device ≡ found.device) × (it.number ≡ found.number)
+    × IfSome it.name (λ name. path_file_name to ≡ Some (string_bytes name)) × (new ≡ Over (folder_name to) (Is found) ∷ old)
+
+-- A path was asked for. It leads to this; or to nothing, and this is the folder of where that would be, with its name.
+abbrev pub Identifies : List ℕ → Identity → Log → Log → Type 0
+Identifies path it old new = ((found : Found) × (it ≡ record { device = found.device; number = found.number; name = None }) × (new ≡ Over path (Is found) ∷ old))
+    ⊎ Names it (Over path Nothing ∷ old) new

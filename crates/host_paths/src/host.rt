@@ -1,0 +1,261 @@
+//! Calls of the system at paths and on open files, each noted with its answer in a record that only clauses read. What
+//! is said of them rests on this: each function here that notes a call makes that one and no other.
+
+ghost use Rattle.std.specs.Prelude.{◌≡◌, ◌∷◌, is_ok};
+ghost use Rattle.host_paths.specs.Asked.{answer_of, is_folder, is_regular, lock_answer, opened, said_of, same_file};
+ghost use Rattle.host_paths.specs.declared.host.HostCall.TheVariants.{At, Lock, Make, Of, Open, Over, Remove, Rename};
+
+use fork_disk::Record;
+use std::collections::LinkedList;
+use std::fs::{File, Metadata, OpenOptions, TryLockError};
+use std::io::ErrorKind;
+use std::os::unix::fs::{MetadataExt, OpenOptionsExt};
+use std::{fs, io};
+
+/// The bits of a mode that say who may read, write and run a file, and the special ones.
+const MODE_BITS: u32 = 0o7777;
+
+/// What a file is.
+#[derive(Clone, Copy, Debug, PartialEq, Eq)]
+pub enum FileKind {
+    Regular,
+    Folder,
+    Link,
+    /// A device, a pipe or a socket.
+    Other,
+}
+
+/// What the system says of a file.
+#[derive(Clone, Copy)]
+pub struct Found {
+    pub kind: FileKind,
+    /// The device that it is on.
+    pub device: u64,
+    /// Its number there: no other file on that device has it.
+    pub number: u64,
+    pub user: u32,
+    pub group: u32,
+    /// Who may read, write and run it, and the special bits.
+    pub mode: u32,
+    /// How many names it has.
+    pub names: u64,
+}
+
+/// What the system answered where it was asked for a file.
+#[derive(Clone, Copy)]
+pub enum Answer {
+    Is(Found),
+    /// There is none.
+    Nothing,
+    Failed,
+}
+
+/// How a file is opened.
+#[derive(Clone, Copy, PartialEq, Eq)]
+pub enum Access {
+    Read,
+    Write,
+    Both,
+}
+
+/// How a file was locked.
+#[derive(Clone, Copy, PartialEq, Eq)]
+pub enum Locking {
+    Taken,
+    /// Another process holds its lock.
+    Busy,
+    /// The file system has no locks.
+    NotOffered,
+}
+
+/// A call of the system, with its answer.
+#[derive(Drop)]
+pub enum HostCall {
+    /// It was asked what is at this path. A link isn't followed.
+    At(LinkedList<u8>, Answer),
+    /// It was asked what this path leads to, over links.
+    Over(LinkedList<u8>, Answer),
+    /// It was asked what this open file is.
+    Of(File, Answer),
+    /// It was to open what this path leads to. Nothing is made or emptied.
+    Open(Access, LinkedList<u8>, Option<File>),
+    /// It was to lock this file, without waiting.
+    Lock(File, Option<Locking>),
+    /// It was to make a file of this mode at this path, which has nothing.
+    Make(u32, LinkedList<u8>, Option<File>),
+    /// It was to rename what is at the first path to the second, and whether it did.
+    Rename(LinkedList<u8>, LinkedList<u8>, bool),
+    /// It was to remove what is at this path, and whether it did.
+    Remove(LinkedList<u8>, bool),
+}
+
+/// The calls, the newest first.
+pub type HostCalls = Record<HostCall>;
+
+/// What a file is, by what the system says.
+fn kind_of(metadata: &Metadata) -> FileKind {
+    if metadata.is_file() {
+        FileKind::Regular
+    } else if metadata.is_dir() {
+        FileKind::Folder
+    } else if metadata.is_symlink() {
+        FileKind::Link
+    } else {
+        FileKind::Other
+    }
+}
+
+impl Found {
+    /// What the system says of a file.
+    fn of(metadata: &Metadata) -> Found {
+        Found {
+            kind: kind_of(metadata),
+            device: metadata.dev(),
+            number: metadata.ino(),
+            user: metadata.uid(),
+            group: metadata.gid(),
+            mode: metadata.mode() & MODE_BITS,
+            names: metadata.nlink(),
+        }
+    }
+
+    /// Whether it is a regular file.
+    pub fn is_regular(&self) -> bool
+        ensures { result ≡ is_regular self.now.kind }
+    {
+        matches!(self.kind, FileKind::Regular)
+    }
+
+    /// Whether it is a folder.
+    pub fn is_folder(&self) -> bool
+        ensures { result ≡ is_folder self.now.kind }
+    {
+        matches!(self.kind, FileKind::Folder)
+    }
+
+    /// Whether it is the same file as another.
+    pub fn is_same(&self, other: &Found) -> bool
+        ensures { result ≡ same_file self.now other.now }
+    {
+        self.device == other.device && self.number == other.number
+    }
+}
+
+/// What the system says of a file that may not be there.
+fn if_any(asked: io::Result<Metadata>) -> io::Result<Option<Found>> {
+    match asked {
+        Ok(metadata) => Ok(Some(Found::of(&metadata))),
+        Err(error) if error.kind() == ErrorKind::NotFound => Ok(None),
+        Err(error) => Err(error),
+    }
+}
+
+/// An answer as it is noted.
+fn answer_of(found: &io::Result<Option<Found>>) -> Answer
+    ensures { result ≡ answer_of found.now }
+{
+    match found {
+        Ok(Some(found)) => Answer::Is(*found),
+        Ok(None) => Answer::Nothing,
+        Err(_) => Answer::Failed,
+    }
+}
+
+/// The same of a file that is open.
+fn said_of(found: &io::Result<Found>) -> Answer
+    ensures { result ≡ said_of found.now }
+{
+    match found {
+        Ok(found) => Answer::Is(*found),
+        Err(_) => Answer::Failed,
+    }
+}
+
+/// What is at a path, if anything. A link is not followed.
+pub fn found_at(rt: &HostRuntime, path: &str, log: &mut HostCalls) -> io::Result<Option<Found>>
+    ensures { log.new.events ≡ At path.now (answer_of result) ∷ log.old.events }
+{
+    let found = if_any(fs::symlink_metadata(rt, path));
+    let answer = answer_of(&found);
+    *log = Record::of_events_beside(log, &path, &answer);
+    found
+}
+
+/// What a path leads to over links, if anything.
+pub fn found_over(rt: &HostRuntime, path: &str, log: &mut HostCalls) -> io::Result<Option<Found>>
+    ensures { log.new.events ≡ Over path.now (answer_of result) ∷ log.old.events }
+{
+    let found = if_any(fs::metadata(rt, path));
+    let answer = answer_of(&found);
+    *log = Record::of_events_beside(log, &path, &answer);
+    found
+}
+
+/// What an open file is.
+pub fn found_of(file: &File, log: &mut HostCalls) -> io::Result<Found>
+    ensures { log.new.events ≡ Of file.now (said_of result) ∷ log.old.events }
+{
+    let found = file.metadata().map(|metadata| Found::of(&metadata));
+    let answer = said_of(&found);
+    *log = Record::of_events_beside(log, file, &answer);
+    found
+}
+
+/// Opens what a path leads to. Nothing is made or emptied.
+pub fn open(rt: &HostRuntime, path: &str, access: Access, log: &mut HostCalls) -> io::Result<File>
+    ensures { log.new.events ≡ Open access path.now (opened result) ∷ log.old.events }
+{
+    let file = OpenOptions::new()
+        .read(access != Access::Write)
+        .write(access != Access::Read)
+        .open(rt, path);
+    *log = Record::of_events_beside(log, &(access, path), &file);
+    file
+}
+
+/// Locks an open file against others that do so, without waiting.
+pub fn lock(file: &File, log: &mut HostCalls) -> io::Result<Locking>
+    ensures { log.new.events ≡ Lock file.now (lock_answer result) ∷ log.old.events }
+{
+    let locking = match file.try_lock() {
+        Ok(()) => Ok(Locking::Taken),
+        Err(TryLockError::WouldBlock) => Ok(Locking::Busy),
+        Err(TryLockError::Error(error)) if error.kind() == ErrorKind::Unsupported => {
+            Ok(Locking::NotOffered)
+        }
+        Err(TryLockError::Error(error)) => Err(error),
+    };
+    *log = Record::of_events_beside(log, file, &locking);
+    locking
+}
+
+/// Makes an empty file of a mode at a path that has none.
+pub(crate) fn make(rt: &HostRuntime, path: &str, mode: u32, log: &mut HostCalls) -> io::Result<File>
+    ensures { log.new.events ≡ Make mode path.now (opened result) ∷ log.old.events }
+{
+    let file = OpenOptions::new()
+        .write(true)
+        .create_new(true)
+        .mode(mode)
+        .open(rt, path);
+    *log = Record::of_events_beside(log, &(mode, path), &file);
+    file
+}
+
+/// Renames what is at a path to another.
+pub(crate) fn rename(rt: &HostRuntime, from: &str, to: &str, log: &mut HostCalls) -> io::Result<()>
+    ensures { log.new.events ≡ Rename from.now to.now (is_ok result) ∷ log.old.events }
+{
+    let done = fs::rename(rt, from, to);
+    *log = Record::of_events_beside(log, &(from, to), &done);
+    done
+}
+
+/// Removes the file at a path.
+pub(crate) fn remove(rt: &HostRuntime, path: &str, log: &mut HostCalls) -> io::Result<()>
+    ensures { log.new.events ≡ Remove path.now (is_ok result) ∷ log.old.events }
+{
+    let done = fs::remove_file(rt, path);
+    *log = Record::of_events_beside(log, &path, &done);
+    done
+}

@@ -1,0 +1,17 @@
+//! Paths of the host: what they lead to, and new files that are made beside them.
+#![tactic(auto)]
+
+mod beside;
+mod host;
+mod identity;
+mod limits;
+mod links;
+
+pub use beside::Beside;
+pub use host::{
+    Access, Answer, FileKind, Found, HostCall, HostCalls, Locking, found_at, found_of, found_over,
+    lock, open,
+};
+pub use identity::Identity;
+pub use limits::{longest_file, this_user, write_whole};
+pub use links::{folder_name, followed, leads_to};

@@ -1,0 +1,35 @@
+//! What the system lets this process do.
+
+use std::fs::File;
+use std::io::{ErrorKind, Write};
+use std::os::unix::fs::MetadataExt;
+use std::{fs, io};
+
+/// The limit that a line of the kernel's list gives, where it is that of a file's length. No number means no
+/// limit.
+fn limit_in(line: &str) -> Option<u64> {
+    let limits = line.strip_prefix("Max file size")?;
+    limits.split_whitespace().next()?.parse().ok()
+}
+
+/// How many bytes long a regular file may be that this process writes, as Linux says: a write past that ends the
+/// process. Elsewhere, and where there is no limit, it is the largest number.
+pub fn longest_file(rt: &HostRuntime) -> u64 {
+    match fs::read_to_string(rt, "/proc/self/limits") {
+        Ok(limits) => limits.lines().find_map(limit_in).unwrap_or(u64::MAX),
+        Err(_) => u64::MAX,
+    }
+}
+
+/// Writes all these bytes to a file, where one may be so long.
+pub fn write_whole(file: &mut File, bytes: &[u8], longest: u64) -> io::Result<()> {
+    if bytes.len() as u64 > longest {
+        return Err(ErrorKind::FileTooLarge.into());
+    }
+    file.write_all(bytes)
+}
+
+/// The user for whom this process acts, as Linux says. Elsewhere none is known.
+pub fn this_user(rt: &HostRuntime) -> io::Result<u32> {
+    Ok(fs::metadata(rt, "/proc/self")?.uid())
+}
