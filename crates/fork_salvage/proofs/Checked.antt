@@ -17,10 +17,6 @@ use Rattle.fork_salvage.specs.declared.plan.Plan.{Plan}
 use Rattle.fork_salvage.specs.Fault.{refusal_of}
 use Rattle.fork_salvage.specs.Faults.{earlier_type, entry_faults, entries_faults, parts_faults, lists_faults, map_faults, found_faults}
 
-pub earlier_step : (m : List ℕ) (types : Types) (kind : List ℕ) (index i : ℕ) → i < index → bytes_eq (told_list m types i).kind kind ≡ false →
-    earlier_type m types kind (places (index - i) i 1) ≡ earlier_type m types kind (places (index - (i + 1)) (i + 1) 1)
-earlier_step m types kind index i within isnt = ap (earlier_type m types kind) (lists.places_step index i i (i + 1) 1 within refl) ∙ cond-false _ _ _ isnt
-
 pub entries_step : (part : Span) (m : List ℕ) (types : Types) (i : ℕ) (done whole : List Fault) (a b : Option Fault) → i < types.count →
     entry_faults part m types i ≡ option_to_list a ++ option_to_list b → done ++ entries_faults part m types i ≡ whole →
     ((done ++ option_to_list a) ++ option_to_list b) ++ entries_faults part m types (i + 1) ≡ whole
