@@ -1,7 +1,7 @@
 -- The options of the command line, and the numbers that they give.
 use Rattle.std.specs.Prelude.{◌≡◌, ℕ, ◌<◌, ◌^◌, ◌==◌, Bool, true, false, bytes_eq, if◌then◌else◌, List, [], Option, Some, None, unwrap_or, codes}
 use Rattle.std.specs.Str.Parse.{IsNumeral, digits_value}
-use Rattle.clap.specs.Words.{App, Rule, Text, Kinds, new_app, new_shape, new_rule, with_rule, matches_of, all_of, first_of, fault_of}
+use Rattle.clap.specs.Words.{App, Rule, Text, Kinds, new_app, new_rule, with_rule, matches_of, all_of, first_of, fault_of}
 use Rattle.mac_base.specs.declared.block.HeadKind.{HeadKind}
 use Rattle.mac_base.specs.declared.block.HeadKind.TheVariants.{Bits24, Bits32}
 use Rattle.clap.specs.declared.builder.ArgAction.TheVariants.{Set, SetTrue, Append}
@@ -18,9 +18,13 @@ file_option name = record (new_rule name) { long = Some name; action = Some Appe
 abbrev pub flag_option : Text → Rule
 flag_option name = record (new_rule name) { long = Some name; action = Some SetTrue }
 
--- the program, which has a version
+-- a program that says its version when it is asked
+abbrev pub with_version : App → App
+with_version app = record app { top = record app.top { has_version = true } }
+
+-- the program, without its options
 abbrev pub program : App
-program = record (new_app (codes "macheap")) { top = record (new_shape (codes "macheap")) { has_version = true } }
+program = with_version (new_app (codes "macheap"))
 
 -- the program and its options
 abbrev pub options : App
