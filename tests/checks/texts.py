@@ -39,7 +39,9 @@ READ = [
     (b"// " + MAP + b"\n/* " + MAP + b" */", [], NOTHING),
 ]
 
-# texts that are refused, with the line and words of what is said
+# what else Rez's language has at the start of a statement
+UNREAD = ["resource", "read", "include", "type", "change", "delete"]
+# texts that are refused, with the line and words of what is said; lines end with CR, LF or CR LF
 MISPLACED = "the comment with the map's bytes is read only where it begins the text: move it there, or remove it"
 REFUSED = [
     (b"// a text\r\ndata'TEXT'(128,$A2)/* a * b **/{\"Hi\\\\\" $\"0 0\"\n};", 2, "two hexadecimal digits are expected"),
@@ -50,7 +52,11 @@ REFUSED = [
     (b"data 'ABCD' (1) {\n\"a\n\"};", 2, "a printable character of ASCII is expected"),
     (b"data 'ABCD' (1) {}", 1, "`;` is expected"),
     (b"\n/* open", 2, "the end of a comment is expected"),
-    (b"resource 'ABCD' (1) {};", 1, "`data` is expected, or the end"),
+    (b"resourse 'ABCD' (1) {};", 1, "`data` is expected, or the end"),
+    *((b"data 'ABCD' (1) {};" + end + word.encode() + b" 'ABCD' (1) {};", 2, f"`{word}` isn't read; `data` is expected, or the end") for word in UNREAD for end in (b"\n", b"\r", b"\r\n")),
+    (b"/* a */\r\n\r\r\n#include \"Types.r\"\r", 4, "a line that begins with # (`#include`) isn't read; `data` is expected, or the end"),
+    (b"\n\r\n\r\r\n\ndata 'ABC' (1) {};", 6, "a type of four characters is expected"),
+    (b"data 'ABCD' (1) {\r\n\"a\r\n\"};", 2, "a printable character of ASCII is expected"),
     (MAP + b"\n$\"00\"\n*/", 1, "the 242 bytes of the map are expected"),
     (b"// by hand\n" + COMMENT, 2, MISPLACED),
     (COMMENT + TEXT + COMMENT, 10, MISPLACED),

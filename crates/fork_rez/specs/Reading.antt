@@ -1,6 +1,6 @@
 -- How a text of `data` statements is read, from left to right, and the first place where it is none.
 use Rattle.std.specs.Prelude.{◌≡◌, ℕ, ℤ, pos, zero, suc, ◌+◌, ◌-◌, ◌*◌, ◌==◌, ◌&&◌, ◌||◌, Bool, false, nat_le, nat_lt, if◌then◌else◌, List, [], ◌∷◌, ◌++◌, length, take, drop, replicate, codes, bytes_eq, Option, None, Some, is_some, Result, Ok, Err, neg_ℤ}
-use Rattle.std.specs.List.{push}
+use Rattle.std.specs.List.{find, push}
 use Rattle.std.specs.Int.RustNames.{bit_or}
 use Rattle.std.specs.Char.{digit_value}
 use Rattle.byteorder.specs.Endian.{big_number}
@@ -8,7 +8,7 @@ use Rattle.fork_bytes.specs.Rows.{Row}
 use Rattle.fork_bytes.specs.declared.table.Table.{Table}
 use Rattle.fork_rez.specs.declared.attribute.Attribute.{Attribute}
 use Rattle.fork_rez.specs.declared.fault.Expected.{Expected}
-use Rattle.fork_rez.specs.declared.fault.Expected.TheVariants.{Statement, Mark, Kind, Id, NameInQuotes, AttributeWord, Character, Digits, CommentEnd, MapBytes, MapFirst}
+use Rattle.fork_rez.specs.declared.fault.Expected.TheVariants.{Statement, DataNot, Mark, Kind, Id, NameInQuotes, AttributeWord, Character, Digits, CommentEnd, MapBytes, MapFirst}
 use Rattle.fork_rez.specs.declared.fault.Fault.{Fault}
 use Rattle.fork_rez.specs.declared.fault.ReadError.{ReadError}
 use Rattle.fork_rez.specs.declared.fault.ReadError.TheVariants as errors
@@ -16,6 +16,8 @@ use Rattle.fork_rez.specs.declared.blanks.Skipping.{Skipping}
 use Rattle.fork_rez.specs.declared.blanks.Skipping.TheVariants.{Between, Slash, Line, Block, Star}
 use Rattle.fork_rez.specs.declared.quoted.Quotes.{Quotes}
 use Rattle.fork_rez.specs.declared.quoted.Quotes.TheVariants.{Single, Double, Hexadecimal}
+use Rattle.fork_rez.specs.declared.unread.Unread.{Unread}
+use Rattle.fork_rez.specs.declared.unread.Unread.TheVariants.{Resource, Read, Include, TypeDeclaration, Change, Delete, Directive}
 use Rattle.fork_rez.specs.Text.{attributes, bit_of, word_of, is_printable, map_word}
 
 infixl 10 ◌>>=◌
@@ -266,10 +268,32 @@ map_in text = do
 unfoldable pub map_at : List ℕ → Result (List ℕ × List ℕ) Fault
 map_at text = if_there (after_word map_word text) map_in (Ok (replicate 242 0, text))
 
+-- the word of a statement that isn't read
+abbrev pub word_of_unread : Unread → List ℕ
+word_of_unread Resource = codes "resource"
+word_of_unread Read = codes "read"
+word_of_unread Include = codes "include"
+word_of_unread TypeDeclaration = codes "type"
+word_of_unread Change = codes "change"
+word_of_unread Delete = codes "delete"
+word_of_unread Directive = codes "#"
+
+-- the statements that aren't read
+abbrev pub unreads : List Unread
+unreads = Resource ∷ Read ∷ Include ∷ TypeDeclaration ∷ Change ∷ Delete ∷ Directive ∷ []
+
+-- a text begins with the word of such a statement
+abbrev pub begins : List ℕ → Unread → Bool
+begins text unread = is_some (after_word (word_of_unread unread) text)
+
+-- what is expected where the statements of a text end, and the text goes on
+abbrev pub expected_at : List ℕ → Expected
+expected_at text = elim (find (begins text) unreads) [ None ↦ Statement | Some unread ↦ DataNot unread ]
+
 -- the table of a whole text
 unfoldable pub table_at : List ℕ → Result Table Fault
 table_at text = do
   kept ← map_at text
   rows ← all_of push row_at [] kept.1
   rest ← after_blanks rows.1
-  if length rest == 0 then Ok (record { rows = rows.0; extra = take 240 kept.0; map_attributes = big_number 2 (drop 240 kept.0) }) else fails rest Statement
+  if length rest == 0 then Ok (record { rows = rows.0; extra = take 240 kept.0; map_attributes = big_number 2 (drop 240 kept.0) }) else fails rest (expected_at rest)

@@ -1,5 +1,6 @@
 -- What a text says: a table, or the line where it is none.
-use Rattle.std.specs.Prelude.{◌≡◌, ℕ, ◌+◌, ◌-◌, ◌==◌, List, length, take, count_by, Result, Ok, Err}
+use Rattle.std.specs.Prelude.{◌≡◌, ℕ, ◌+◌, ◌-◌, ◌==◌, ◌&&◌, ◌||◌, not, Bool, List, ◌∷◌, length, take, count_by, Result, Ok, Err}
+use Rattle.std.specs.List.{zip}
 use Rattle.fork_bytes.specs.declared.table.Table.{Table}
 use Rattle.fork_bytes.specs.Written.{plain_rows}
 use Rattle.fork_rez.specs.declared.fault.Fault.{Fault}
@@ -9,9 +10,17 @@ use Rattle.fork_rez.specs.declared.fault.RezFault.TheVariants.{HostFull, Refused
 use Rattle.fork_rez.specs.declared.table.Made.{Made}
 use Rattle.fork_rez.specs.Reading.{table_at}
 
+-- a byte ends a line: a carriage return, or a line feed that doesn't come right after one
+abbrev pub ends_line : ℕ → ℕ → Bool
+ends_line previous byte = byte == 13 || (byte == 10 && not (previous == 13))
+
+-- how many lines end in a text
+abbrev pub line_ends : List ℕ → ℕ
+line_ends text = count_by (λ pair. ends_line pair.0 pair.1) (zip (0 ∷ text) text)
+
 -- the line, from 1 on, where so many bytes of a text are left
 abbrev pub line_at : List ℕ → ℕ → ℕ
-line_at text left = 1 + count_by (λ byte. byte == 10) (take (length text - left) text)
+line_at text left = 1 + line_ends (take (length text - left) text)
 
 -- a table, or the line of the fault
 abbrev pub said : List ℕ → Result Table Fault → Result Table Refusal

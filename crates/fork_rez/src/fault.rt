@@ -3,6 +3,7 @@
 ghost use Rattle.std.specs.Prelude.{◌≡◌, length};
 ghost use Rattle.fork_rez.specs.declared.fault.ReadError.TheVariants.{HostFull, Refused};
 
+use crate::unread::Unread;
 use std::alloc::{AllocError, AllocFailed};
 use std::fmt;
 use thiserror::Error;
@@ -12,6 +13,8 @@ use thiserror::Error;
 pub enum Expected {
     /// The word `data`, or the end of the text.
     Statement,
+    /// The word `data`, or the end of the text, where there is what isn't read.
+    DataNot(Unread),
     /// This character.
     Mark(u8),
     /// A type: four characters between single quotes.
@@ -38,6 +41,10 @@ impl fmt::Display for Expected {
     fn fmt<W: fmt::Write>(&self, f: &mut fmt::Formatter<W>) -> fmt::Result {
         match *self {
             Expected::Statement => write!(f, "`data` is expected, or the end"),
+            Expected::DataNot(unread) => write!(
+                f,
+                "{unread} isn't read; `data` is expected, or the end"
+            ),
             Expected::Mark(byte) => {
                 let mark = char::from(byte);
                 write!(f, "`{mark}` is expected")

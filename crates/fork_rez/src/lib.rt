@@ -11,6 +11,7 @@ mod quoted;
 mod statement;
 pub mod table;
 mod text;
+pub mod unread;
 
 pub use laws::rez_laws;
 pub use table::rez;

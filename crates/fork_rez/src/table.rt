@@ -1,14 +1,15 @@
 //! The table that a text says.
 
-ghost use Rattle.std.specs.Prelude.{◌≡◌, [], IfOk, length};
+ghost use Rattle.std.specs.Prelude.{◌≡◌, ◌≤◌, [], IfOk, length};
 ghost use Rattle.std.specs.List.{push};
 ghost use Rattle.fork_bytes.specs.Written.{plain_row, plain_rows};
-ghost use Rattle.fork_rez.specs.Reading.{Gives, all_of, map_at, map_in, row_at, table_at};
-ghost use Rattle.fork_rez.specs.Said.{Answers, line_at, made_table, table_of};
+ghost use Rattle.fork_rez.specs.Reading.{Gives, all_of, expected_at, map_at, map_in, row_at, table_at};
+ghost use Rattle.fork_rez.specs.Said.{Answers, ends_line, line_at, line_ends, made_table, table_of};
 
 use crate::blanks::{MAP_WORD, after_blanks, after_word, word_at};
 use crate::fault::{Expected, ReadError, Refusal, RezFault, refused};
 use crate::statement::{data_at, row_at};
+use crate::unread::{UNREADS, first_at};
 use fork_bytes::table::{Contents, Row, Rows, Table};
 use mac_base::resource::Resource;
 use std::alloc::{AllocError, Global};
@@ -115,6 +116,16 @@ fn rows_at(alloc: Global, text: &[u8]) -> Result<(Vec<Resource<Vec<u8>>>, &[u8])
     Ok((rows, rest))
 }
 
+/// What is expected where the statements of a text end, and the text goes on.
+fn expected_at(text: &[u8]) -> Expected
+    ensures { result ≡ expected_at text.now }
+{
+    match first_at(UNREADS, text) {
+        Some(unread) => Expected::DataNot(*unread),
+        None => Expected::Statement,
+    }
+}
+
 /// The table of a whole text.
 #[tactic(auto, unfolding(crate::specs::Reading::table_at))]
 fn table_at(alloc: Global, text: &[u8]) -> Result<Made, ReadError>
@@ -127,7 +138,7 @@ fn table_at(alloc: Global, text: &[u8]) -> Result<Made, ReadError>
     };
     let rest = after_blanks(rest)?;
     if !rest.is_empty() {
-        return Err(refused(rest, Expected::Statement));
+        return Err(refused(rest, expected_at(rest)));
     }
     let (front, back) = bytes.as_slice().split_at(EXTRA_LENGTH);
     let mut extra = [0; 240];
@@ -140,12 +151,37 @@ fn table_at(alloc: Global, text: &[u8]) -> Result<Made, ReadError>
     })
 }
 
+/// Whether a byte ends a line: a carriage return, or a line feed that doesn't come right after one.
+fn ends_line(previous: u8, byte: u8) -> bool
+    ensures { result ≡ ends_line previous byte }
+{
+    byte == b'\r' || byte == b'\n' && previous != b'\r'
+}
+
+/// How many lines end in a text.
+fn line_ends(text: &[u8]) -> usize
+    ensures ends { result ≡ line_ends text.now }
+    ensures most { result ≤ length text.now }
+{
+    let mut ends = 0;
+    let mut previous = 0;
+    let mut rest = text;
+    while let Some((byte, after)) = rest.split_first() {
+        if ends_line(previous, *byte) {
+            ends += 1;
+        }
+        previous = *byte;
+        rest = after;
+    }
+    ends
+}
+
 /// The line of a text, from 1 on, where so many bytes are left.
 fn line_at(text: &[u8], left: usize) -> usize
     ensures { result ≡ line_at text.now left }
 {
     let before = &text[..text.len().saturating_sub(left)];
-    1 + before.iter().filter(|byte| **byte == b'\n').count()
+    1 + line_ends(before)
 }
 
 /// The table that a text of `data` statements says, with blanks and comments anywhere between words. Data are strings
