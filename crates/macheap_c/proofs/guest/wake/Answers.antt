@@ -22,8 +22,8 @@ pub returns-in-Ok : goal.returns-in-Ok
 returns-in-Ok c =
     let there : region_of c.args.memory.now.host ≡ Some c.in-Some.region = search rules in
     let long : length c.in-Some.region.bytes ≡ c.args.session.value.zone.shape.limit = search rules in
-    let wakes : IsAwakeIn c.args.session.value c.in-Some.region c.session.value = search rules in
-    woken_in c.args.session.value c.session.value (region_of c.args.memory.now.host) (region_of c.take.new.self.host) c.put-in-Ok.new.self.held.session c.args.asleep.now.zone.held.session c.in-Some.region
+    let wakes = subst (λ (s : State). IsAwakeIn s c.in-Some.region c.wake_in.new.session) c.deref_mut.ensures.value c.in-Ok.ensures.awake in
+    woken_in c.args.session.value c.wake_in.new.session (region_of c.args.memory.now.host) (region_of c.take.new.self.host) c.put-in-Ok.new.self.held.session c.args.asleep.now.zone.held.session c.in-Some.region
     there long wakes c.put-in-Ok.ensures c.requires.out (search rules)
 
 pub returns-in-Err : goal.returns-in-Err
