@@ -12,6 +12,8 @@ static uint8_t ram[LIMIT], right[LIMIT];
 /* what part of the structure each byte is in, which of its bits may be other ones, and the block that has it */
 static uint32_t part[LIMIT];
 static uint8_t loose[LIMIT];
+/* the empty handle */
+static uint32_t empty;
 static MhBlock holder[LIMIT];
 
 typedef struct Guest {
@@ -59,7 +61,8 @@ static void made(Guest *guest, uint32_t mode) {
         }
     }
     IS(at, BASE + SIZE);
-    if (mode == 24) loose[handle - BASE] = loose[locked - BASE] = MH_LOCK | MH_PURGE | MH_RESOURCE;
+    if (mode == 24) loose[handle - BASE] = loose[locked - BASE] = loose[gone - BASE] = MH_LOCK | MH_PURGE | MH_RESOURCE;
+    empty = gone;
     SLEEP(guest);
     memcpy(right, ram, LIMIT);
 }
@@ -96,7 +99,7 @@ static void damaged(Guest *guest, uint32_t at, uint8_t change) {
     IS(guest->memory.start == ram && guest->memory.length == LIMIT && guest->memory.here, true);
     if (part[at] == NOTHING) ram[at] ^= change;
     for (uint32_t i = 0; i < LIMIT; i++) {
-        uint8_t flags = i == at ? change & loose[i] : 0;
+        uint8_t flags = i == at && BASE + i != empty ? change & loose[i] : 0;
         IS(ram[i], part[i] == NOTHING ? (uint8_t)(i * 3 + at) : right[i] ^ flags);
     }
     IS(mh_check(&guest->asleep, &guest->memory, &fault), MH_NO_ERR);

@@ -74,17 +74,22 @@ static void mark(Guest *guest, uint8_t *bits) {
     }
 }
 
-/* One byte differs in some bits: the zone wakes where none of them is structure. Else the code is MH_DAMAGED, and no
- * byte has changed. */
+/* an empty handle whose flags a guest sets, or 0 */
+static uint32_t empty;
+
+/* One byte differs in some bits: the zone wakes where none of them is structure, and where all are flags of an empty handle,
+ * which fall away. Else the code is MH_DAMAGED, and no byte has changed. */
 static void changed(Guest *guest, const uint8_t *bits, uint32_t at, uint8_t change) {
-    bool harmless = !(bits[at] & change);
+    bool falls = empty == BASE + at && guest->mode == 24 && !(change & 0x1F), harmless = falls || !(bits[at] & change);
+    uint8_t was = ram[at];
     ram[at] ^= change;
     memcpy(before, ram, guest->memory.length);
     IS(mh_wake(&guest->zone, &guest->asleep, &guest->memory), harmless ? MH_NO_ERR : MH_DAMAGED);
     if (harmless) SLEEP(guest);
+    if (falls) before[at] = 0;
     IS(guest->memory.start == ram && guest->memory.here, true);
     IS(memcmp(before, ram, guest->memory.length), 0);
-    ram[at] ^= change;
+    ram[at] = was;
 }
 
 /* A guest that follows master pointers, reads and writes. */
@@ -142,6 +147,52 @@ static void flags(void) {
     IS(mh_purge_mem(&guest.zone, number + 50), MH_NO_ERR);
     SLEEP(&guest);
     IS(word(second), 0);
+    ended(&guest);
+}
+
+/* A guest sets flags by BSET, also in the master pointer of a handle that is empty: they say nothing there. The zone wakes, the
+ * pointer is nil again, and the handle's next block has no flag. Where the zone doesn't wake they stay. */
+static void flags_of_nil(void) {
+    enum { MANY = 300 };
+    static uint32_t handles[MANY];
+    MhFault fault = {7, 7};
+    uint32_t number = 0, full = 0;
+    Guest guest = made(LIMIT, LIMIT, 24);
+    WAKE(&guest);
+    IS(mh_new_handle(&guest.zone, 100, &full), MH_NO_ERR);
+    for (int i = 0; i < MANY; i++) IS(mh_new_empty_handle(&guest.zone, &handles[i]), MH_NO_ERR);
+    SLEEP(&guest);
+    for (int told = 0; told < 2; told++) {
+        static MhWritten written[MANY];
+        for (uint32_t i = 0; i < MANY; i++) {
+            ram[handles[i] - BASE] |= (uint8_t)((1 + i % 7) << 5);
+            written[i] = (MhWritten){handles[i] - BASE, 1};
+        }
+        ram[full - BASE] |= MH_LOCK;
+        written[0] = (MhWritten){0, LIMIT};
+        ram[full - BASE + 3] ^= 4;
+        memcpy(before, ram, LIMIT);
+        IS(mh_check(&guest.asleep, &guest.memory, &fault), MH_DAMAGED);
+        IS(fault.offset, full - BASE + 3);
+        IS(mh_wake(&guest.zone, &guest.asleep, &guest.memory), MH_DAMAGED);
+        IS(mh_wake_written(&guest.zone, &guest.asleep, &guest.memory, written, 1), MH_DAMAGED);
+        IS(memcmp(before, ram, LIMIT), 0);
+        ram[full - BASE + 3] ^= 4;
+        before[full - BASE + 3] ^= 4;
+        IS(mh_check(&guest.asleep, &guest.memory, &fault), MH_NO_ERR);
+        IS(memcmp(before, ram, LIMIT), 0);
+        written[0] = (MhWritten){handles[0] - BASE, 1};
+        if (told) IS(mh_wake_written(&guest.zone, &guest.asleep, &guest.memory, written, MANY), MH_NO_ERR);
+        else WAKE(&guest);
+        IS(mh_hget_state(&guest.zone, handles[0], &number), MH_NIL_HANDLE_ERR);
+        IS(mh_reallocate_handle(&guest.zone, handles[1], 10), MH_NO_ERR);
+        IS(mh_hget_state(&guest.zone, handles[1], &number), MH_NO_ERR);
+        IS(number, 0);
+        IS(mh_empty_handle(&guest.zone, handles[1]), MH_NO_ERR);
+        SLEEP(&guest);
+        for (int i = 0; i < MANY; i++) IS(word(handles[i]), 0);
+        IS(word(full) >> 24, MH_LOCK);
+    }
     ended(&guest);
 }
 
@@ -261,6 +312,7 @@ static void each_byte(uint32_t mode) {
     IS(mh_hlock(&guest.zone, handle), MH_NO_ERR);
     IS(mh_new_handle(&guest.zone, 40, &handle), MH_NO_ERR);
     IS(mh_empty_handle(&guest.zone, handle), MH_NO_ERR);
+    empty = handle;
     IS(mh_new_handle(&guest.zone, 50, &handle), MH_NO_ERR);
     IS(mh_hpurge(&guest.zone, handle), MH_NO_ERR);
     IS(mh_new_ptr(&guest.zone, 20, &number), MH_NO_ERR);
@@ -270,6 +322,7 @@ static void each_byte(uint32_t mode) {
         for (uint8_t change = 1; change; change = (uint8_t)(change << 1)) changed(&guest, bits, at, change);
         changed(&guest, bits, at, 0xFF);
     }
+    empty = 0;
     memset(ram, 0, guest.memory.length);
     IS(mh_wake(&guest.zone, &guest.asleep, &guest.memory), MH_DAMAGED);
     ended(&guest);
@@ -325,6 +378,7 @@ static void refused(Guest *guest, const uint8_t *bits, const MhWritten *written,
     uint8_t change = (uint8_t)(1 << below(8));
     uint32_t at = range->from + below(range->count);
     if (at >= guest->memory.length || !(bits[at] & change)) return;
+    if (change >= 0x20 && at % 4 == 0 && !word(BASE + at)) return; /* it may be an empty handle's */
     ram[at] ^= change;
     memcpy(before, ram, guest->memory.length);
     IS(mh_wake_written(&guest->zone, &guest->asleep, &guest->memory, written, count), MH_DAMAGED);
@@ -652,6 +706,7 @@ int main(int count, char **words) {
         patient(mode);
     }
     flags();
+    flags_of_nil();
     locks_kept();
     damages(600);
     lent_elsewhere();

@@ -1,6 +1,6 @@
 /* Each allocation of mh_make_zone fails in turn: the answer is memFullErr, there is no zone, and nothing is kept. So do those of
  * mh_make_zone_of and mh_attach, which leave their bytes; and those of calls on resource files: nothing has changed then, and the call
- * succeeds once there is memory. It is linked with -Wl,--wrap=malloc. */
+ * succeeds once there is memory; and mh_wake and mh_check. It is linked with -Wl,--wrap=malloc. */
 #include "macheap.h"
 #include "resman.h"
 
@@ -114,6 +114,29 @@ static void bytes_in_turn(void) {
     MUST(count > 2 && count < 1000);
 }
 
+/* A zone wakes without memory of the host. Where a guest set flags in an empty handle's master pointer it takes some: else nothing has
+ * changed. */
+static void nil_flags(void) {
+    static uint8_t ram[4096];
+    MhZone zone = MH_NO_ZONE;
+    MhAsleep asleep = MH_NO_ASLEEP;
+    MhMemory memory = {ram, 4096, true};
+    MhFault fault = {7, 7};
+    uint32_t handle = 0;
+    MUST(mh_make_zone_at(&asleep, &memory, 0x100000, 4096, 4096, 24) == MH_NO_ERR && mh_wake(&zone, &asleep, &memory) == MH_NO_ERR);
+    MUST(mh_new_empty_handle(&zone, &handle) == MH_NO_ERR && mh_sleep(&zone, &asleep, &memory) == MH_NO_ERR);
+    left = 0;
+    MUST(mh_check(&asleep, &memory, &fault) == MH_NO_ERR);
+    MUST(mh_wake(&zone, &asleep, &memory) == MH_NO_ERR && mh_sleep(&zone, &asleep, &memory) == MH_NO_ERR);
+    ram[handle - 0x100000] = MH_LOCK;
+    MUST(mh_check(&asleep, &memory, &fault) == MH_MEM_FULL_ERR && fault.offset == 7);
+    MUST(mh_wake(&zone, &asleep, &memory) == MH_MEM_FULL_ERR && memory.here && ram[handle - 0x100000] == MH_LOCK);
+    left = -1;
+    MUST(mh_check(&asleep, &memory, &fault) == MH_NO_ERR && ram[handle - 0x100000] == MH_LOCK);
+    MUST(mh_wake(&zone, &asleep, &memory) == MH_NO_ERR && mh_sleep(&zone, &asleep, &memory) == MH_NO_ERR && !ram[handle - 0x100000]);
+    MUST(mh_end_asleep(&asleep) == MH_NO_ERR);
+}
+
 int main(void) {
     MhErr code = MH_MEM_FULL_ERR;
     int count = 0;
@@ -130,5 +153,6 @@ int main(void) {
     if (code != MH_NO_ERR || count < 2) printf("the last code is %d, behind %d trials\n", code, count);
     bytes_in_turn();
     files_in_turn();
+    nil_flags();
     return code != MH_NO_ERR || count < 2;
 }

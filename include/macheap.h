@@ -30,7 +30,8 @@
  * What is tested, and refused with a code and no change: any call before mh_make_zone, after mh_end_zone or
  * while the zone sleeps, mh_make_zone on a zone that is there, mh_end_zone twice (paramErr); any number as a handle, a
  * pointer, a size, an offset or an address, live or not, but not as a range of mh_wake_written. A zone that is
- * forgotten keeps its memory: end it. All memory of the host is taken by the call that makes a zone.
+ * forgotten keeps its memory: end it. All memory of the host is taken by the call that makes a zone, but for a copy of
+ * the bytes that mh_wake and mh_check make where a guest set flags in an empty handle's master pointer.
  *
  * MACHEAP_VERSION is the version of all three headers. While it begins with 0, the next one may change what is here: a
  * program is then built anew.
@@ -271,6 +272,10 @@ MhErr mh_carried(MhZone *zone, uint32_t index, uint32_t place, MhCarried *carrie
  * byte has changed, and the zone sleeps on. It wakes once the bytes are right again: mh_check says which byte is wrong,
  * and mh_repair writes the structure anew.
  *
+ * In mode 24 a guest can also set these bits in the master pointer of an empty handle, which is nil but for them. They
+ * say nothing there and are no damage: when the zone wakes the pointer is 0 again, and the handle's next block has no
+ * flag set. They stay while the zone sleeps on. mh_attach takes no such bytes: the zone that slept wakes in them first.
+ *
  * The other fields of the header are the guest's: purgePtr (4 bytes from offset 4 on), and gzProc to sparePtr (32 from
  * 16 on). They are kept as the guest left them, whatever the calls do. In a new zone moreMast is 64, and the rest zero.
  * No call heeds them: a master block has 64 master pointers whatever moreMast says.
@@ -309,7 +314,8 @@ MhErr mh_make_zone_at(MhAsleep *asleep, MhMemory *memory, uint32_t base, uint32_
 MhErr mh_attach(MhAsleep *asleep, MhMemory *memory, uint32_t base, uint32_t size, uint32_t limit, uint32_t mode);
 /* Wakes it, with what is lent. paramErr where `zone` is there, where none sleeps, and where the bytes are gone or
  * aren't as many as its limit. MH_DAMAGED where they haven't the zone's structure, memLockedErr where they have, and a
- * handle that is lent isn't locked. */
+ * handle that is lent isn't locked. memFullErr where an empty handle's master pointer has flags, and the host has no
+ * memory to copy the bytes while they are cleared. */
 MhErr mh_wake(MhZone *zone, MhAsleep *asleep, MhMemory *memory);
 /* Wakes it as mh_wake does, with the same codes, and compares only what was written: the zone's header, and the
  * headers of blocks and the master pointers of blocks that have a byte in a range. `written` has `count` ranges, each
@@ -331,8 +337,9 @@ MhErr mh_wake_written(MhZone *zone, MhAsleep *asleep, MhMemory *memory, const Mh
 MhErr mh_sleep(MhZone *zone, MhAsleep *asleep, MhMemory *memory);
 /* Looks for damage, and changes no byte. If the bytes have the zone's structure the answer is 0. Else it is MH_DAMAGED,
  * and the fault is the first byte that is wrong: some bytes with the structure agree with these up to it, and none with
- * it. `part` is what the byte is in. paramErr where none sleeps, and where the bytes are gone or aren't as many as its
- * limit. After mh_repair and mh_wake, mh_holder of base + offset finds the block. */
+ * it. Flags in an empty handle's master pointer are no damage; memFullErr where there are such, and the host has no
+ * memory for a copy without them. `part` is what the byte is in. paramErr where none sleeps, and where the bytes are
+ * gone or aren't as many as its limit. After mh_repair and mh_wake, mh_holder of base + offset finds the block. */
 enum { MH_ZONE_HEADER = 1, MH_BLOCK_HEADER = 2, MH_MASTER_POINTER = 3 };
 typedef struct MhFault {
     uint32_t offset; /* from the zone's start */

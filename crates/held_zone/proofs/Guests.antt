@@ -1,16 +1,19 @@
 -- A zone of a guest: how it wakes and falls asleep, and how its bytes are repaired, with the guest's fields put aside.
-use Rattle.std.proofs.Common.{◌≡◌, ◌∙◌, ℕ, ◌-◌, ◌≤◌, List, [], ◌++◌, length, replicate, None, Ok, Err, Result, refl, sym, ap, subst, IsTrue}
+use Rattle.std.proofs.Common.{◌≡◌, ◌∙◌, ℕ, ◌-◌, ◌≤◌, List, [], ◌++◌, length, replicate, take, None, Ok, Err, Result, refl, sym, ap, subst, inl, inr, IsTrue}
 use Rattle.std.specs.Prelude.{IfErr}
 use Rattle.mac_base.specs.HeadKind.{zone_header}
 use Rattle.mac_base.specs.ZoneSizes.{ZoneSizes}
 use Rattle.mac_base.specs.ZoneState.{Memory, ZoneState}
-use Rattle.raw_region.specs.State.{State as Region}
+use Rattle.raw_region.specs.State.{State as Region, with_bytes}
 use Rattle.block_bytes.specs.declared.adopting.WhyNot.{WhyNot}
 use Rattle.block_bytes.specs.declared.adopting.WhyNot.TheVariants.{NotZone}
 use Rattle.linked_zone.specs.Adopting.{IsZoneIn}
 use Rattle.linked_zone.specs.Structure.{HasStructure, IsIn, shown}
 use Rattle.held_zone.specs.declared.fields.GuestFields.{GuestFields}
-use Rattle.held_zone.specs.Asleep.{FallsAsleep, IsAsleep, IsGivenBack, IsInRegion, IsSettled, WakesAsBefore, all_back, all_lendable, as_left, awake_as, awake_in}
+use Rattle.held_zone.specs.Asleep.{AwakeTaking, FallsAsleep, IsAsleep, IsAwakeIn, IsGivenBack, IsInRegion, IsSettled, RefusesTaken, SleepsOn, WakesAsBefore, all_back, all_lendable, as_left, awake_as, awake_in}
+use Rattle.held_zone.specs.declared.waking.WhyAsleep.{WhyAsleep}
+use Rattle.held_zone.specs.declared.waking.WhyAsleep.TheVariants.{Damaged, HostFull, Unlocked}
+use Rattle.held_zone.specs.NilFlags.{IsCleared, Takes}
 use Rattle.held_zone.specs.Attaching.{IsZoneOf}
 use Rattle.held_zone.specs.Fields.{AreFields, fielded, fields_in, managed, managed_in, new_fields}
 use Rattle.held_zone.specs.KeptFlags.{KeepsFlags}
@@ -18,18 +21,52 @@ use Rattle.held_zone.specs.Repairing.{IsMended}
 use Rattle.held_zone.specs.State.{State}
 use Rattle.held_zone.proofs.Filled.{zone-in}
 use Rattle.held_zone.proofs.Headers.{fielded-back, in-long, in-with, length-with, managed-fielded, managed-in}
+use Rattle.held_zone.proofs.NilFlags.{damaged-cleared, taken-long}
+use Rattle.mem_calls.proofs.FlagsTaken.{written-all}
 
--- bytes of another length haven't the structure
-pub other-length : (z : ZoneState) (bytes : List ℕ) → (length bytes ≡ z.shape.limit → ⊥) → HasStructure z (managed bytes) → ⊥
-other-length z bytes other has = other (sym (length-with _ bytes) ∙ has.all)
+-- bytes of another length haven't the structure, as a zone takes them
+pub other-length : (z : ZoneState) (bytes : List ℕ) → (length bytes ≡ z.shape.limit → ⊥) → (taken : List ℕ) → Takes z (managed bytes) taken → HasStructure z taken → ⊥
+other-length z bytes other taken takes has = other (sym (length-with new_fields bytes) ∙ sym (taken-long z (managed bytes) taken takes) ∙ has.all)
 
 -- a region is as long as the Memory Manager has it
 pub managed-long : (r now : Region) → now ≡ managed_in r → length now.bytes ≡ length r.bytes
 managed-long r now is = ap (λ (r : Region). length r.bytes) is ∙ length-with new_fields r.bytes
 
+-- bytes that are written over all of a region
+pub all-written : (r : Region) (new : List ℕ) (n : ℕ) → n ≡ length r.bytes → length new ≡ length r.bytes → with_bytes r 0 (take n new) ≡ record r { bytes = new }
+all-written r new n all long = ap (λ (xs : List ℕ). let now : Region = record r { bytes = xs } in now) (written-all r.bytes new n all long)
+
 -- a zone that is awake with its guest's fields
-pub woken : (old new : State) (r : Region) (fields : GuestFields) → new ≡ awake_as (managed_in r) old → fields ≡ fields_in r.bytes → record new { guest = fields } ≡ awake_in r old
-woken old new r fields is read = λ i. record (is i) { guest = read i }
+pub woken : (old new : State) (r : Region) (taken : List ℕ) (fields : GuestFields) → Takes old.zone (managed r.bytes) taken → AwakeTaking taken (managed_in r) old new → fields ≡ fields_in r.bytes → IsAwakeIn old r (record new { guest = fields })
+woken old new r taken fields takes wakes read = record {
+  taken = taken;
+  takes = takes;
+  structure = wakes.structure;
+  lendable = wakes.lendable;
+  awake = λ i. record (wakes.awake i) { guest = read i };
+}
+
+-- one that has the structure of bytes as they are
+pub awake-plain : (old new : State) (r : Region) → HasStructure old.zone r.bytes → IsTrue (all_lendable old r.bytes) → new ≡ awake_as r old → (taken : List ℕ) × Takes old.zone r.bytes taken × AwakeTaking taken r old new
+awake-plain old new r has may is = (r.bytes, inl (has, refl), record { structure = has; lendable = may; awake = is })
+
+-- one that has the structure of bytes that are cleared
+pub awake-cleared : (old new : State) (r cleared : Region) → (HasStructure old.zone r.bytes → ⊥) → IsCleared old.zone r.bytes cleared.bytes → cleared ≡ record r { bytes = cleared.bytes }
+    → HasStructure old.zone cleared.bytes → IsTrue (all_lendable old cleared.bytes) → new ≡ awake_as cleared old → (taken : List ℕ) × Takes old.zone r.bytes taken × AwakeTaking taken r old new
+awake-cleared old new r cleared damaged clear same has may is =
+    (cleared.bytes, inr (damaged, clear), record { structure = has; lendable = may; awake = is ∙ ap (λ (r : Region). awake_as r old) same })
+
+-- one that sleeps on in bytes as they are, though not for damage
+pub sleeps-plain : (why : WhyAsleep) (s : State) (bytes : List ℕ) → (why ≡ Damaged → ⊥) → RefusesTaken why s bytes → SleepsOn why s bytes
+sleeps-plain Damaged s bytes other refuses = absurd (other refl)
+sleeps-plain Unlocked s bytes other refuses = (bytes, inl (refuses.0, refl), refuses)
+sleeps-plain HostFull s bytes other refuses = absurd refuses
+
+-- one that sleeps on in bytes that are cleared
+pub sleeps-cleared : (why : WhyAsleep) (s : State) (bytes cleared : List ℕ) → (HasStructure s.zone bytes → ⊥) → IsCleared s.zone bytes cleared → RefusesTaken why s cleared → SleepsOn why s bytes
+sleeps-cleared Damaged s bytes cleared damaged clear refuses = damaged-cleared s.zone bytes cleared damaged clear refuses
+sleeps-cleared Unlocked s bytes cleared damaged clear refuses = (cleared, inr (damaged, clear), refuses)
+sleeps-cleared HostFull s bytes cleared damaged clear refuses = absurd refuses
 
 -- a zone that falls asleep gives the region back with them
 pub given-back : (old new : State) (r : Region) → AreFields old.guest → IsInRegion (all_back old) r → FallsAsleep old r new → WakesAsBefore old r new → IsGivenBack old (fielded old.guest r) new

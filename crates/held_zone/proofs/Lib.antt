@@ -2,7 +2,8 @@ pub mod AsBefore
 pub mod Filled
 pub mod Guests
 pub mod Headers
-mod Keeping
+pub mod Keeping
+pub mod NilFlags
 pub mod Lendable
 pub mod LentAgain
 pub mod Made

@@ -15,8 +15,9 @@ use Rattle.linked_zone.specs.Structure.{DifferInContents, HasStructure, IsIn, Sa
 use Rattle.raw_region.specs.State.{State as Region}
 use Rattle.raw_region.specs.declared.host.HostBytes.{HostBytes}
 use Rattle.held_zone.specs.declared.waking.WhyAsleep.{WhyAsleep}
-use Rattle.held_zone.specs.declared.waking.WhyAsleep.TheVariants.{Damaged, Unlocked}
-use Rattle.held_zone.specs.Fields.{fields_in, managed_in}
+use Rattle.held_zone.specs.declared.waking.WhyAsleep.TheVariants.{Damaged, HostFull, Unlocked}
+use Rattle.held_zone.specs.Fields.{fields_in, managed, managed_in}
+use Rattle.held_zone.specs.NilFlags.{NoNilFlags, Takes}
 use Rattle.held_zone.specs.State.{State}
 
 -- the region that the host's bytes are, if they are here
@@ -69,15 +70,40 @@ awake_as r s =
       waiting = [];
     }
 
--- the zone awake in a region of a guest: it is that, with the fields that the guest left in the header
-abbrev pub awake_in : Region → State → State
-awake_in r s = record (awake_as (managed_in r) s) { guest = fields_in r.bytes }
+-- the zone awake in a region of a guest that it takes with these bytes: it is that, with the fields that the guest left in
+-- the header
+abbrev pub awake_in : List ℕ → Region → State → State
+awake_in taken r s = record (awake_as (record r { bytes = taken }) s) { guest = fields_in r.bytes }
 
--- why a zone sleeps on: bytes haven't its structure; or they have, and a block that waits is no pointer's there and no
--- locked handle's, so it may not be lent
+-- a zone that slept is awake in a region that it takes with these bytes: they have its structure, and what waited may be
+-- lent in them
+pub record AwakeTaking (taken : List ℕ) (r : Region) (old new : State) : Type 0 where
+  pub structure : HasStructure old.zone taken
+  pub lendable : IsTrue (all_lendable old taken)
+  pub awake : new ≡ awake_as (record r { bytes = taken }) old
+
+-- a zone that slept is awake in a region of a guest: the region has its structure as the zone takes it, and what waited
+-- may be lent in it
+pub record IsAwakeIn (old : State) (r : Region) (new : State) : Type 0 where
+  pub taken : List ℕ
+  pub takes : Takes old.zone (managed r.bytes) taken
+  pub structure : HasStructure old.zone taken
+  pub lendable : IsTrue (all_lendable old taken)
+  pub awake : new ≡ awake_in taken r old
+
+-- why a zone sleeps on in bytes that it takes: they haven't its structure; or they have, and a block that waits is no
+-- pointer's there and no locked handle's, so it may not be lent
+abbrev pub RefusesTaken : WhyAsleep → State → List ℕ → Type 0
+RefusesTaken Damaged s taken = HasStructure s.zone taken → ⊥
+RefusesTaken Unlocked s taken = HasStructure s.zone taken × IsFalse (all_lendable s taken)
+RefusesTaken HostFull s taken = ⊥
+
+-- why it sleeps on in bytes of a guest: for this in those that it takes; or the host has no memory in which they could be
+-- kept, where they haven't the structure, and an empty handle's master pointer has flag bits
 abbrev pub SleepsOn : WhyAsleep → State → List ℕ → Type 0
-SleepsOn Damaged s bytes = HasStructure s.zone bytes → ⊥
-SleepsOn Unlocked s bytes = HasStructure s.zone bytes × IsFalse (all_lendable s bytes)
+SleepsOn Damaged s bytes = (taken : List ℕ) → Takes s.zone bytes taken → RefusesTaken Damaged s taken
+SleepsOn Unlocked s bytes = (taken : List ℕ) × Takes s.zone bytes taken × RefusesTaken Unlocked s taken
+SleepsOn HostFull s bytes = (HasStructure s.zone bytes → ⊥) × (NoNilFlags s.zone bytes → ⊥)
 
 -- the zone is in a region, as it wakes or falls asleep: with nothing lent
 pub record IsInRegion (s : State) (r : Region) : Type 0 where
@@ -126,7 +152,7 @@ pub record IsGivenBack (old : State) (r : Region) (new : State) : Type 0 where
   pub place : IsInRegion (all_back old) (managed_in r)
   pub asleep : FallsAsleep old (managed_in r) new
   pub again : WakesAsBefore old (managed_in r) new
-  pub awake : awake_in r new ≡ as_left old
+  pub awake : awake_in (managed r.bytes) r new ≡ as_left old
 
 -- a region has the structure of a zone, with the zone's flags, and is the one that was given: all other bytes are as
 -- they were, and so are the contents that they have for handles and pointers

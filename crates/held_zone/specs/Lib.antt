@@ -1,8 +1,10 @@
 pub mod Asleep
 pub mod Attaching
+pub mod Checking
 pub mod Fields
 pub mod Held
 pub mod KeptFlags
+pub mod NilFlags
 pub mod Repairing
 pub mod State
 pub mod Told

@@ -7,6 +7,7 @@ pub mod fields;
 mod lending_again;
 mod lent;
 pub mod memory;
+mod nil_flags;
 pub mod parked;
 mod repairing;
 pub mod session;

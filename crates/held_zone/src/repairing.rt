@@ -8,21 +8,23 @@ ghost use Rattle.mac_base.specs.Sound.{Sound};
 ghost use Rattle.raw_region.specs.Bytes.{part};
 ghost use Rattle.held_zone.specs.KeptFlags.{KeepsAt, KeepsFlags, right_flags};
 ghost use Rattle.linked_zone.specs.Changes.{flagged};
+ghost use Rattle.held_zone.specs.Checking.{Finds};
 
 use crate::fields::put_aside;
+use crate::nil_flags;
 use crate::session::Session;
 use byteorder::{BigEndian, ByteOrder};
 use linked_zone::{LinkedZone, Part};
 use mac_base::block::{Flags, HeadKind, Kind};
+use mac_base::error::HostFull;
 use mac_base::handle::Handle;
 use mac_base::size::ZONE_HEADER;
 use mem_calls::{MemoryManager, state_of};
 use raw_region::Region;
+use std::alloc::Global;
 
 impl Session {
-    ghost use Rattle.std.specs.Prelude.{◌≡◌, [], length, IfNone, IfSome};
-    ghost use Rattle.linked_zone.specs.Faults.{IsFirstFault};
-    ghost use Rattle.linked_zone.specs.Structure.{HasStructure};
+    ghost use Rattle.std.specs.Prelude.{◌≡◌, [], length};
     ghost use Rattle.held_zone.specs.Asleep.{IsAsleep};
     ghost use Rattle.held_zone.specs.Fields.{managed};
     ghost use Rattle.held_zone.specs.Repairing.{IsMended};
@@ -48,23 +50,49 @@ impl Session {
     }
 
     /// The first byte of a region as long as the zone's limit that isn't as the structure of the zone, which sleeps,
-    /// calls for, and the part of the structure that it is in. The guest's fields of the header may be any. None where
-    /// the region has the structure. It is given back as it was.
-    pub fn first_fault(&self, region: &mut Region) -> Option<(u32, Part)>
+    /// calls for, and the part of the structure that it is in. The guest's fields of the header may be any, and flag
+    /// bits in empty handles' master pointers say nothing. None where the region has the structure. It is given back as
+    /// it was. The host may have no memory only where there are such bits.
+    pub fn first_fault(
+        &self,
+        alloc: Global,
+        region: &mut Region,
+    ) -> Result<Option<(u32, Part)>, HostFull>
         requires asleep { IsAsleep self.now }
         requires whole { region.old.lent ≡ [] }
         requires long { length region.old.bytes ≡ self.now.zone.shape.limit }
-        ensures fault { IfSome result (λ found. IsFirstFault self.now.zone (managed region.old.bytes) found.0 found.1) }
-        ensures none { IfNone result (HasStructure self.now.zone (managed region.old.bytes)) }
+        ensures checked { Finds self.now.zone (managed region.old.bytes) result }
         ensures same { region.new ≡ region.old }
     {
         let _limit = self.limit();
         let fields = put_aside(region);
         let zone = self.memory.linked();
-        let found = zone.first_fault(region.bytes(0, region.len()));
+        let found = first_fault(alloc, zone, region.bytes(0, region.len()));
         fields.write_in(region);
         found
     }
+}
+
+/// The first of bytes, as a zone takes them, that isn't as its structure calls for, if any is.
+fn first_fault(
+    alloc: Global,
+    zone: &LinkedZone,
+    bytes: &[u8],
+) -> Result<Option<(u32, Part)>, HostFull>
+    requires sound { Sound zone.now.shape zone.now.heap }
+    requires nothing_lent { zone.now.heap.table.lent ≡ [] }
+    requires long { length bytes.now ≡ zone.now.shape.limit }
+    ensures { Finds zone.now bytes.now result }
+{
+    let Some(found) = zone.first_fault(bytes) else {
+        return Ok(None);
+    };
+    if !nil_flags::has_any(zone, bytes) {
+        return Ok(Some(found));
+    }
+    let mut taken = Vec::from_slice(alloc, bytes)?;
+    nil_flags::clear(zone, &mut taken);
+    Ok(zone.first_fault(&taken))
 }
 
 /// Sets the flags that bytes say in master pointers whose low three bytes are right, but for handles that wait to be
@@ -91,7 +119,7 @@ fn keep_flags(memory: &mut MemoryManager, bytes: &[u8], waiting: &[u32])
 
 /// Where the block ends that has the byte at an address, unless it is a master block: no handle is as high as the
 /// address and below this end.
-fn past_block(zone: &LinkedZone, at: u32) -> Option<u32>
+pub(crate) fn past_block(zone: &LinkedZone, at: u32) -> Option<u32>
     requires sound { Sound zone.now.shape zone.now.heap }
     ensures further { IfSome result (λ next. at < next) }
     ensures none { IfSome result (λ next. (x : ℕ) → at ≤ x → x < next → is_handle zone.now.heap.table x ≡ false) }

@@ -1,12 +1,12 @@
 -- What C learns where a guest has damaged its zone.
-use Rattle.std.specs.Prelude.{◌≡◌, ◌⊎◌, ℕ, ℤ, pos, Bool, true, false, ◌==◌, length, Option, Some, None}
-use Rattle.linked_zone.specs.Faults.{IsFirstFault}
-use Rattle.linked_zone.specs.Structure.{HasStructure}
+use Rattle.std.specs.Prelude.{◌≡◌, ◌⊎◌, ℕ, ℤ, pos, Bool, true, false, ◌==◌, length, Option, Some, None, Result, Ok, Err}
 use Rattle.linked_zone.specs.Parts.{IsHolder, LiesOutside}
 use Rattle.mac_base.specs.Codes.{minus}
 use Rattle.mac_base.specs.declared.block.Block.{Block}
+use Rattle.mac_base.specs.declared.error.HostFull.{HostFull}
 use Rattle.mac_base.specs.ZoneState.{ZoneState}
 use Rattle.raw_region.specs.State.{State as Region}
+use Rattle.held_zone.specs.Checking.{Finds}
 use Rattle.held_zone.specs.Fields.{managed}
 use Rattle.held_zone.specs.Repairing.{IsMended}
 use Rattle.held_zone.specs.State.{State}
@@ -47,12 +47,16 @@ part_number ZoneHeader = 1
 part_number BlockHeader = 2
 part_number MasterPointer = 3
 
--- bytes have the structure of a zone, whatever the guest's fields say, or the first that isn't as it calls for is shown,
--- and the part that it is in
+-- nothing is found, and what was there stays; or the first byte that is wrong is shown, and the part that it is in; or the
+-- host has no memory (memFullErr)
+abbrev pub ShowsFault : Result (Option (ℕ × Part)) HostFull → ℤ → MhFault → MhFault → Type 0
+ShowsFault (Ok None) code before fault = (code ≡ pos 0) × (fault ≡ before)
+ShowsFault (Ok (Some found)) code before fault = (code ≡ damaged) × (fault ≡ record { offset = found.0; part = part_number found.1 })
+ShowsFault (Err full) code before fault = (code ≡ minus 108) × (fault ≡ before)
+
+-- bytes are checked, whatever the guest's fields say
 abbrev pub Checks : State → Region → ℤ → MhFault → MhFault → Type 0
-Checks s region code before fault =
-    (HasStructure s.zone (managed region.bytes) × (code ≡ pos 0) × (fault ≡ before))
-    ⊎ ((part : Part) × IsFirstFault s.zone (managed region.bytes) fault.offset part × (fault.part ≡ part_number part) × (code ≡ damaged))
+Checks s region code before fault = (found : Result (Option (ℕ × Part)) HostFull) × Finds s.zone (managed region.bytes) found × ShowsFault found code before fault
 
 -- bytes that aren't as many as the zone's limit are refused: paramErr
 abbrev pub ChecksWhere : Bool → State → Region → ℤ → MhFault → MhFault → Type 0

@@ -1,36 +1,37 @@
 -- What C learns of a zone that sleeps, and wakes in its bytes.
-use Rattle.std.specs.Prelude.{◌≡◌, ◌⊎◌, ℤ, pos, Bool, true, false, ◌==◌, length, List, Option, Some, None, IsTrue, ⊤}
+use Rattle.std.specs.Prelude.{◌≡◌, ◌⊎◌, ℤ, pos, Bool, true, false, ◌==◌, length, List, Option, Some, None, ⊤}
 use Rattle.zone_records.specs.declared.structure.Written.{Written}
-use Rattle.linked_zone.specs.Structure.{HasStructure}
 use Rattle.linked_zone.specs.Written.{DifferIn}
 use Rattle.mac_base.specs.Codes.{code_of, minus}
 use Rattle.mac_base.specs.declared.error.OsErr.{OsErr}
 use Rattle.mac_base.specs.ZoneSizes.{ZoneSizes}
 use Rattle.raw_region.specs.State.{State as Region}
-use Rattle.held_zone.specs.Asleep.{IsGivenBack, IsSettled, SleepsOn, all_lendable, awake_in, sleep_refusal}
+use Rattle.held_zone.specs.Asleep.{IsAwakeIn, IsGivenBack, IsSettled, SleepsOn, sleep_refusal}
 use Rattle.held_zone.specs.Fields.{managed}
 use Rattle.held_zone.specs.declared.waking.WhyAsleep.{WhyAsleep}
-use Rattle.held_zone.specs.declared.waking.WhyAsleep.TheVariants.{Damaged, Unlocked}
+use Rattle.held_zone.specs.declared.waking.WhyAsleep.TheVariants.{Damaged, HostFull, Unlocked}
 use Rattle.held_zone.specs.State.{State, IsNew}
 
 -- the code that C gets where bytes haven't the structure of a zone: memSCErr
 abbrev pub damaged : ℤ
 damaged = minus 116
 
--- the code that says why a zone sleeps on: memLockedErr where a block that is lent isn't locked in the bytes any more
+-- the code that says why a zone sleeps on: memLockedErr where a block that is lent isn't locked in the bytes any more, and
+-- memFullErr where the host has no memory to keep bytes in while flag bits in empty handles' master pointers are cleared
 abbrev pub code_asleep : WhyAsleep → ℤ
 code_asleep Damaged = damaged
 code_asleep Unlocked = minus 117
+code_asleep HostFull = minus 108
 
 -- paramErr, and C has the zone that was awake, the one that slept, and the bytes that were there
 abbrev pub Refused : Option State → Option State → Option Region → ℤ → Option State → Option State → Option Region → Type 0
 Refused zone asleep memory code new_zone new_asleep new_memory = (code ≡ minus 50) × (new_zone ≡ zone) × (new_asleep ≡ asleep) × (new_memory ≡ memory)
 
--- a zone wakes in bytes that have its structure, whatever the guest's fields say, with what is lent, and the bytes are
--- gone then; or it sleeps on, and they are as they were
+-- a zone wakes in bytes that have its structure, whatever the guest's fields and flag bits in empty handles' master
+-- pointers say, with what is lent, and the bytes are gone then; or it sleeps on, and they are as they were
 abbrev pub WakesIn : State → Region → ℤ → Option State → Option State → Option Region → Type 0
 WakesIn old region code zone asleep memory =
-    (HasStructure old.zone (managed region.bytes) × IsTrue (all_lendable old (managed region.bytes)) × (code ≡ pos 0) × (zone ≡ Some (awake_in region old)) × (asleep ≡ None) × (memory ≡ None))
+    ((new : State) × IsAwakeIn old region new × (code ≡ pos 0) × (zone ≡ Some new) × (asleep ≡ None) × (memory ≡ None))
     ⊎ ((why : WhyAsleep) × SleepsOn why old (managed region.bytes) × (code ≡ code_asleep why) × (zone ≡ None) × (asleep ≡ Some old) × (memory ≡ Some region))
 
 -- bytes that aren't as many as the zone's limit are refused

@@ -4,7 +4,7 @@ ghost use Rattle.std.specs.Prelude.{◌≡◌, Some};
 ghost use Rattle.mac_base.specs.Outcomes.{done_outcome};
 ghost use Rattle.held_zone.specs.Asleep.{IsAsleep, region_of};
 ghost use Rattle.held_zone.specs.Told.{code_told};
-ghost use Rattle.macheap_c.specs.Diagnose.{ChecksIn, HolderTold, IsChecked, IsRepaired, RepairsIn, part_number};
+ghost use Rattle.macheap_c.specs.Diagnose.{ChecksIn, HolderTold, IsChecked, IsRepaired, RepairsIn, ShowsFault, part_number};
 
 use crate::guest::DAMAGED;
 use crate::walk::{MhBlock, shown_block};
@@ -14,7 +14,7 @@ use held_zone::session::Session;
 use held_zone::told::{self, NO_ZONE};
 use held_zone::zone::MhZone;
 use linked_zone::Part;
-use mac_base::error::{NO_ERR, OsErr};
+use mac_base::error::{HostFull, NO_ERR, OsErr};
 use std::alloc::Global;
 
 /// Writes the structure of the zone that sleeps into its bytes again: they have it then, and no other byte has changed.
@@ -58,7 +58,8 @@ pub struct MhFault {
 }
 
 /// Looks for the first byte that isn't as the structure of the zone that sleeps calls for. No byte changes. paramErr
-/// where no zone sleeps, and where the bytes aren't as many as its limit.
+/// where no zone sleeps, and where the bytes aren't as many as its limit. Flag bits in the master pointers of empty
+/// handles say nothing; memFullErr where there are any, and the host has no memory for a copy without them.
 #[unsafe(no_mangle)]
 pub extern "C" fn mh_check(
     alloc: Global,
@@ -71,13 +72,13 @@ pub extern "C" fn mh_check(
     let Some(session) = asleep.take(alloc) else {
         return NO_ZONE;
     };
-    let code = check(&session, memory, fault);
+    let code = check(alloc, &session, memory, fault);
     asleep.put(session);
     code
 }
 
 /// Looks for the first byte that isn't as the structure of a zone that sleeps calls for.
-fn check(session: &Session, memory: &mut MhMemory, fault: &mut MhFault) -> i16
+fn check(alloc: Global, session: &Session, memory: &mut MhMemory, fault: &mut MhFault) -> i16
     requires asleep { IsAsleep session.now }
     ensures { ChecksIn session.now (region_of memory.old.host) result fault.old fault.new (region_of memory.new.host) }
 {
@@ -88,17 +89,25 @@ fn check(session: &Session, memory: &mut MhMemory, fault: &mut MhFault) -> i16
         memory.put(region);
         return OsErr::ParamErr.code();
     }
-    let found = session.first_fault(&mut region);
+    let found = session.first_fault(alloc, &mut region);
     memory.put(region);
+    show_fault(found, fault)
+}
+
+/// Shows the first byte that is wrong, if one is found.
+fn show_fault(found: Result<Option<(u32, Part)>, HostFull>, fault: &mut MhFault) -> i16
+    ensures { ShowsFault found result fault.old fault.new }
+{
     match found {
-        Some((offset, part)) => {
+        Ok(None) => NO_ERR,
+        Ok(Some((offset, part))) => {
             *fault = MhFault {
                 offset,
                 part: number_of(part),
             };
             DAMAGED
         }
-        None => NO_ERR,
+        Err(_) => OsErr::MemFullErr.code(),
     }
 }
 

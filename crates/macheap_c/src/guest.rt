@@ -1,11 +1,10 @@
 //! A zone that sleeps, and wakes in bytes of the host that a guest may write meanwhile.
 
-ghost use Rattle.std.specs.Prelude.{◌≡◌, [], None, Some, IfErr, IfOk, IfSome, IsTrue};
-ghost use Rattle.linked_zone.specs.Structure.{HasStructure};
+ghost use Rattle.std.specs.Prelude.{◌≡◌, [], None, Some, IfErr, IfOk, IfSome};
 ghost use Rattle.linked_zone.specs.Written.{DifferIn};
 ghost use Rattle.mac_base.specs.Outcomes.{done_outcome};
 ghost use Rattle.held_zone.specs.Told.{code_told};
-ghost use Rattle.held_zone.specs.Asleep.{IsAsleep, SleepsOn, all_lendable, awake_in, region_of};
+ghost use Rattle.held_zone.specs.Asleep.{IsAsleep, IsAwakeIn, SleepsOn, region_of};
 ghost use Rattle.held_zone.specs.Fields.{managed};
 ghost use Rattle.macheap_c.specs.Guest.{IsMadeAt, IsPutToSleep, IsTold, IsWoken, code_asleep};
 ghost use Rattle.macheap_c.specs.Life.{Ends, large_sizes_of};
@@ -90,8 +89,9 @@ fn make(
 }
 
 /// Wakes the zone that sleeps in bytes that have its structure: it has the contents and flags that they have, what is
-/// lent is lent again, and the bytes are gone. Else the zone sleeps on, and no byte has changed; memLockedErr where
-/// they have the structure, and a handle that is lent isn't locked any more.
+/// lent is lent again, and the bytes are gone. Flag bits in the master pointers of empty handles are cleared. Else the
+/// zone sleeps on, and no byte has changed; memLockedErr where they have the structure, and a handle that is lent isn't
+/// locked any more; memFullErr where there are such bits, and the host has no memory to keep the bytes in meanwhile.
 #[unsafe(no_mangle)]
 pub extern "C" fn mh_wake(
     alloc: Global,
@@ -139,11 +139,12 @@ fn wake_asleep(
     let Some(session) = asleep.take(alloc) else {
         return NO_ZONE;
     };
-    wake(session, zone, asleep, memory, written)
+    wake(alloc, session, zone, asleep, memory, written)
 }
 
 /// Wakes a zone that was asleep.
 fn wake(
+    alloc: Global,
     session: Box<Session>,
     zone: &mut MhZone,
     asleep: &mut MhAsleep,
@@ -166,7 +167,7 @@ fn wake(
         memory.put(region);
         return OsErr::ParamErr.code();
     }
-    match wake_in(&mut session, region, written) {
+    match wake_in(alloc, &mut session, region, written) {
         Ok(()) => {
             zone.put(session);
             NO_ERR
@@ -179,18 +180,21 @@ fn wake(
     }
 }
 
-/// The code of why a zone sleeps on: memSCErr, or memLockedErr where a block that is lent isn't locked any more.
+/// The code of why a zone sleeps on: memSCErr; memLockedErr where a block that is lent isn't locked any more; memFullErr
+/// where the host has no memory.
 fn code_of_sleep(why: WhyAsleep) -> i16
     ensures { result ≡ code_asleep why }
 {
     match why {
         WhyAsleep::Damaged => DAMAGED,
         WhyAsleep::Unlocked => OsErr::MemLockedErr.code(),
+        WhyAsleep::HostFull => OsErr::MemFullErr.code(),
     }
 }
 
 /// Wakes the zone of a session in a region, of whose bytes the host may say which were written.
 fn wake_in(
+    alloc: Global,
     session: &mut Session,
     region: Region,
     written: Option<&[Written]>,
@@ -198,12 +202,12 @@ fn wake_in(
     requires asleep { IsAsleep session.old }
     requires whole { region.lent ≡ [] }
     requires told { IfSome written (λ ranges. DifferIn session.old.zone (managed region.bytes) ranges.now) }
-    ensures awake { IfOk result (λ u. HasStructure session.old.zone (managed region.bytes) × IsTrue (all_lendable session.old (managed region.bytes)) × (session.new ≡ awake_in region session.old)) }
+    ensures awake { IfOk result (λ u. IsAwakeIn session.old region session.new) }
     ensures asleep { IfErr result (λ no. SleepsOn no.why session.old (managed region.bytes) × (no.region ≡ region) × (session.new ≡ session.old)) }
 {
     match written {
-        Some(written) => session.wake_written(region, written),
-        None => session.wake(region),
+        Some(written) => session.wake_written(alloc, region, written),
+        None => session.wake(alloc, region),
     }
 }
 

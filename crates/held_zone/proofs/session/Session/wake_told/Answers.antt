@@ -1,10 +1,10 @@
-use Rattle.std.proofs.Common.{◌≡◌, ◌∙◌, ◌≤◌, ap, arith, length, refl, subst, sym, IsTrue}
+use Rattle.std.proofs.Common.{◌≡◌, ◌∙◌, ◌≤◌, ap, arith, length, refl, subst, sym}
 use Rattle.mac_base.specs.HeadKind.{zone_header}
 use Rattle.raw_region.specs.State.{State as Region}
-use Rattle.linked_zone.specs.Structure.{HasStructure}
 use Rattle.held_calls.specs.Holding.{loans_of}
-use Rattle.held_zone.specs.Asleep.{SleepsOn, all_lendable, awake_as}
+use Rattle.held_zone.specs.Asleep.{AwakeTaking, SleepsOn}
 use Rattle.held_zone.specs.Fields.{fielded}
+use Rattle.held_zone.specs.NilFlags.{Takes}
 use Rattle.held_zone.specs.State.{State}
 use Rattle.held_zone.proofs.Guests.{managed-long, other-length, woken}
 use Rattle.held_zone.proofs.Headers.{fielded-back}
@@ -14,6 +14,10 @@ use Rattle.held_zone.proofs.session.Session.wake_told.Goals as goal
 pub returns-then-len-limit-clause-asleep : goal.returns-then-len-limit-clause-asleep
 returns-then-len-limit-clause-asleep c =
     (other-length c.args.self.now.zone c.args.region.bytes (λ same. c.if-len-limit.true (c.len.ensures ∙ same ∙ sym c.limit.ensures.value)), refl, refl)
+
+pub wake_taking-requires-clause-long : goal.wake_taking-requires-clause-long
+wake_taking-requires-clause-long c =
+    managed-long c.args.region c.put_aside-fields.new.region c.put_aside-fields.ensures.region ∙ sym c.len.ensures ∙ c.if-len-limit.false ∙ c.limit.ensures.value
 
 pub write_in-requires-clause-long : goal.write_in-requires-clause-long
 write_in-requires-clause-long c =
@@ -26,8 +30,10 @@ pub returns-in-Ok-clause-awake : goal.returns-in-Ok-clause-awake
 returns-in-Ok-clause-awake c =
     let old = c.args.self.now in let inside = c.self.inside in
     let now : State = state inside.memory (loans_of inside.loans) inside.answers.left inside.answers.asks inside.waiting.items inside.guest in
-    let awake = subst (λ (r : Region). HasStructure old.zone r.bytes × IsTrue (all_lendable old r.bytes) × (c.wake_managed.new.self ≡ awake_as r old)) c.put_aside-fields.ensures.region c.in-Ok.ensures.awake in
-    (awake.0, awake.1, woken old now c.args.region c.put_aside-fields.result (c.self.view_is ∙ awake.2) c.put_aside-fields.ensures.fields)
+    let given = c.in-Ok.ensures.awake in
+    let takes = subst (λ (r : Region). Takes old.zone r.bytes given.0) c.put_aside-fields.ensures.region given.1 in
+    let wakes = subst (λ (r : Region). AwakeTaking given.0 r old c.wake_taking.new.self) c.put_aside-fields.ensures.region given.2 in
+    woken old now c.args.region given.0 c.put_aside-fields.result takes (record { structure = wakes.structure; lendable = wakes.lendable; awake = c.self.view_is ∙ wakes.awake }) c.put_aside-fields.ensures.fields
 
 pub returns-in-Err-clause-asleep : goal.returns-in-Err-clause-asleep
 returns-in-Err-clause-asleep c =
