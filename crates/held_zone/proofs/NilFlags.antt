@@ -60,9 +60,6 @@ none-end z bytes from at sound before far = λ end. none-past z bytes from at en
 
 -- ---- bytes that are cleared
 
-byte-cleared : (z : ZoneState) (x byte : ℕ) → is_nil_flags z x byte ≡ true → 0 ≡ cleared_byte z x byte
-byte-cleared z x byte is = sym (ap (λ b. cond b 0 byte) is)
-
 byte-left : (z : ZoneState) (x byte : ℕ) → is_nil_flags z x byte ≡ false → byte ≡ cleared_byte z x byte
 byte-left z x byte none = sym (ap (λ b. cond b 0 byte) none)
 
@@ -71,32 +68,6 @@ at-place : (z : ZoneState) (bytes : List ℕ) (at : ℕ) (b : Bool) → has_nil_
 at-place z bytes at b is =
     let place : z.shape.base + at - z.shape.base ≡ at = omega arith in
     sym (ap (λ n. is_nil_flags z (z.shape.base + at) (slice_index bytes n)) place) ∙ is
-
-pub cleared-begin : (z : ZoneState) (bytes : List ℕ) (from : ℕ) → from ≡ z.shape.base → IsClearedTo z bytes from bytes
-cleared-begin z bytes from start = record { long = refl; done = λ at below. absurd (omega arith); left = λ at above. refl }
-
--- the next such byte is cleared
-pub cleared-next : (z : ZoneState) (old bytes new : List ℕ) (from x at next : ℕ) → at ≡ x - z.shape.base → z.shape.base ≤ x → next ≡ x + 1 → at < length bytes → new ≡ slice_set bytes at 0 → from ≤ x
-    → IsClearedTo z old from bytes → NoneBetween z bytes from x → has_nil_flags z bytes x ≡ true → IsClearedTo z old next new
-cleared-next z old bytes new from x at next place high after inside is reached to none here = record {
-  long = ap length is ∙ length-set bytes at 0 ∙ to.long;
-  done = λ p below. elim (cases_lt (z.shape.base + p) from) [
-    | inl lower ↦ other p (omega arith) ∙ to.done p lower
-    | inr upper ↦ elim (cases_lt (z.shape.base + p) x) [
-      | inl before ↦
-          (let same = to.left p upper in let left = at-place z bytes p false (none (z.shape.base + p) upper before) in
-          other p (omega arith) ∙ same ∙ byte-left z (z.shape.base + p) (slice_index old p) (sym (ap (is_nil_flags z (z.shape.base + p)) same) ∙ left))
-      | inr above ↦
-          (let there : p ≡ at = omega arith in let whole : x ≡ z.shape.base + p = omega arith in let same = to.left p upper in
-          let flags = at-place z bytes p true (ap (has_nil_flags z bytes) (sym whole) ∙ here) in
-          ap (slice_index new) there ∙ ap (λ bs. slice_index bs at) is ∙ get_or-set_same bytes at 0 0 inside ∙ byte-cleared z (z.shape.base + p) (slice_index old p) (sym (ap (is_nil_flags z (z.shape.base + p)) same) ∙ flags))
-    ]
-  ];
-  left = λ p above. other p (omega arith) ∙ to.left p (omega arith);
-}
-  where
-    other : (p : ℕ) → (p ≡ at → ⊥) → slice_index new p ≡ slice_index bytes p
-    other p apart = ap (λ bs. slice_index bs p) is ∙ get_or-set_other bytes at p 0 0 apart
 
 pub cleared-end : (z : ZoneState) (old new : List ℕ) (from : ℕ) → z.shape.base ≤ from → IsClearedTo z old from new → ((end : ℕ) → NoneBetween z new from end) → IsCleared z old new
 cleared-end z old new from high to none = record {
