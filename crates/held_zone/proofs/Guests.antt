@@ -50,18 +50,6 @@ woken old new r taken fields takes wakes read = record {
 pub awake-plain : (old new : State) (r : Region) → HasStructure old.zone r.bytes → IsTrue (all_lendable old r.bytes) → new ≡ awake_as r old → (taken : List ℕ) × Takes old.zone r.bytes taken × AwakeTaking taken r old new
 awake-plain old new r has may is = (r.bytes, inl (has, refl), record { structure = has; lendable = may; awake = is })
 
--- one that has the structure of bytes that are cleared
-pub awake-cleared : (old new : State) (r cleared : Region) → (HasStructure old.zone r.bytes → ⊥) → IsCleared old.zone r.bytes cleared.bytes → cleared ≡ record r { bytes = cleared.bytes }
-    → HasStructure old.zone cleared.bytes → IsTrue (all_lendable old cleared.bytes) → new ≡ awake_as cleared old → (taken : List ℕ) × Takes old.zone r.bytes taken × AwakeTaking taken r old new
-awake-cleared old new r cleared damaged clear same has may is =
-    (cleared.bytes, inr (damaged, clear), record { structure = has; lendable = may; awake = is ∙ ap (λ (r : Region). awake_as r old) same })
-
--- one that sleeps on in bytes as they are, though not for damage
-pub sleeps-plain : (why : WhyAsleep) (s : State) (bytes : List ℕ) → (why ≡ Damaged → ⊥) → RefusesTaken why s bytes → SleepsOn why s bytes
-sleeps-plain Damaged s bytes other refuses = absurd (other refl)
-sleeps-plain Unlocked s bytes other refuses = (bytes, inl (refuses.0, refl), refuses)
-sleeps-plain HostFull s bytes other refuses = absurd refuses
-
 -- one that sleeps on in bytes that are cleared
 pub sleeps-cleared : (why : WhyAsleep) (s : State) (bytes cleared : List ℕ) → (HasStructure s.zone bytes → ⊥) → IsCleared s.zone bytes cleared → RefusesTaken why s cleared → SleepsOn why s bytes
 sleeps-cleared Damaged s bytes cleared damaged clear refuses = damaged-cleared s.zone bytes cleared damaged clear refuses

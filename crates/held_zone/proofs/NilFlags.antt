@@ -16,10 +16,6 @@ use Rattle.held_zone.specs.Checking.{Finds}
 use Rattle.held_zone.specs.NilFlags.{IsCleared, IsClearedTo, NoNilFlags, NoneBetween, Takes, cleared_byte, has_nil_flags, is_nil, is_nil_flags}
 use Rattle.held_zone.proofs.Keeping.{slot-below}
 
-and-false : (b : Bool) → (b && false) ≡ false
-and-false true = refl
-and-false false = refl
-
 -- what is no handle is no empty one
 no-nil : (z : ZoneState) (x : ℕ) → is_handle z.heap.table x ≡ false → is_nil z x ≡ false
 no-nil z x none = false_from_ne_true (is_nil z x) (λ is.
@@ -50,10 +46,6 @@ none-next z bytes from at next before after = λ y low high. elim (cases_lt y at
 
 pub none-past : (z : ZoneState) (bytes : List ℕ) (from at next : ℕ) → NoneBetween z bytes from at → ((y : ℕ) → at ≤ y → y < next → is_handle z.heap.table y ≡ false) → NoneBetween z bytes from next
 none-past z bytes from at next before none = none-next z bytes from at next before (λ y low high. no-handle z bytes y (none y low high))
-
-pub none-one : (z : ZoneState) (bytes : List ℕ) (from at : ℕ) → NoneBetween z bytes from at → has_nil_flags z bytes at ≡ false → NoneBetween z bytes from (at + 1)
-none-one z bytes from at before none = none-next z bytes from at (at + 1) before (λ y low high.
-    let same : y ≡ at = omega arith in ap (has_nil_flags z bytes) same ∙ none)
 
 pub none-end : (z : ZoneState) (bytes : List ℕ) (from at : ℕ) → Sound z.shape z.heap → NoneBetween z bytes from at → z.shape.base + zone_header + total_size z.heap.map ≤ at → (end : ℕ) → NoneBetween z bytes from end
 none-end z bytes from at sound before far = λ end. none-past z bytes from at end before (λ y low high. none-above z sound y (omega arith))
