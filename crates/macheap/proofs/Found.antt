@@ -20,7 +20,7 @@ use Rattle.macheap.specs.declared.asked.NotAsked.{NotAsked}
 use Rattle.macheap.specs.declared.asked.NotAsked.TheVariants.{Words, TooManyForks, OtherJournals, NoNumber, Mode, Spec, HostFull}
 use Rattle.macheap.specs.Files.{most_files, FitForks, NotNamed}
 use Rattle.macheap.specs.Options.{options, faults, forks_of, journals_of, value_of, values_of, IsDecimal, IsNumberOf, IsNoNumber}
-use Rattle.macheap.specs.Asking.{Asks, Match, GivesNoNumber, MeansNoRun, IsNoNumberFault}
+use Rattle.macheap.specs.Asking.{Asks, IsShown, Match, GivesNoNumber, MeansNoRun, IsNoNumberFault}
 
 pub options_free : is_simple_and_free options ≡ true
 unfolding clap_on_literals
@@ -88,10 +88,13 @@ no_number_found command words m name got is has found none = subst IsNoNumber (v
 -- an error of the parse asks for help, or says that the words don't match
 pub unmatched : (words : List Text) (e : Error) (r : Result Asked NotAsked) → HasKind (faults words) e → MeansNoRun (kind_of e) r → Asks words r
 unmatched words e (Ok (Run sizes files)) has means = absurd means
-unmatched words e (Ok (Help text)) (inl full) means = let is = means.0 in absurd (cc)
-unmatched words e (Ok (Help text)) (inr among) means = (subst (λ (k : ErrorKind). IsAmong k (faults words)) means.0 among, means.1 ∙ means.0)
+unmatched words e (Ok (Help text)) (inl full) means = elim (means.0) [
+  | inl is ↦ absurd (cc)
+  | inr is ↦ absurd (cc)
+]
+unmatched words e (Ok (Help text)) (inr among) means = (subst (λ (k : ErrorKind). IsAmong k (faults words)) (sym means.1) among, subst IsShown (sym means.1) means.0)
 unmatched words e (Err (Words fault)) (inl full) means = absurd (means.1 full)
-unmatched words e (Err (Words fault)) (inr among) means = (subst (λ (k : ErrorKind). IsAmong k (faults words)) (sym means.2) among, λ same. means.0 (sym means.2 ∙ same))
+unmatched words e (Err (Words fault)) (inr among) means = (subst (λ (k : ErrorKind). IsAmong k (faults words)) (sym means.2) among, λ shown. means.0 (subst IsShown means.2 shown))
 unmatched words e (Err TooManyForks) has means = absurd means
 unmatched words e (Err OtherJournals) has means = absurd means
 unmatched words e (Err (NoNumber option)) has means = absurd means

@@ -57,7 +57,7 @@ IsShown kind = (kind ≡ DisplayHelp) ⊎ (kind ≡ DisplayVersion)
 
 -- the words ask for help, or for the version
 abbrev pub AsksForHelp : List Text → Type 0
-AsksForHelp words = IsAmong DisplayHelp (faults words) ⊎ IsAmong DisplayVersion (faults words)
+AsksForHelp words = (shown : ErrorKind) × IsAmong shown (faults words) × IsShown shown
 
 -- the words don't match the options, and don't ask for help or the version
 abbrev pub DontMatch : List Text → Type 0
