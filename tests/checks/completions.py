@@ -49,7 +49,8 @@ def in_bash(file, words, folder):
 
 def in_fish(file, words, folder):
     """The options that fish offers for the last of these words."""
-    said = output(["fish", "--no-config", "-c", f"source {file}; complete -C '{' '.join(words)}'"], cwd=folder, env={**os.environ, "HOME": folder})
+    with tempfile.TemporaryDirectory() as home:
+        said = output(["fish", "--no-config", "-c", f"source {file}; complete -C '{' '.join(words)}'"], cwd=folder, env={**os.environ, "HOME": home})
     return [line.split("\t")[0] for line in said.splitlines()]
 
 
