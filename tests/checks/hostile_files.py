@@ -7,7 +7,7 @@ was ended has left is removed, and what others hold stays. Time and memory are b
 container, make no command crash, hang, or print something that it then refuses.
 
 Where it runs as root it makes users of its own, by their numbers; else those rows are skipped, and it says so. Number: how many files are changed by
-chance; each command is run on each. Needs a C compiler: `cc`, or $CC; and bash.
+chance; each command is run on each, or where they are over 4,000 a fourth of the commands. Needs a C compiler: `cc`, or $CC; and bash.
 """
 import tempfile
 import time

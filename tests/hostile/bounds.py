@@ -14,6 +14,8 @@ from model.fork import read_fork
 
 # a megabyte, in kilobytes
 MB = 1024
+# how many times the system's own time for new files a command may take that writes them: it checks and syncs each
+MAKING = 4
 LESS = ["--limit", "16M"]
 CONTAINERS = ["raw", "appledouble", "applesingle", "macbinary", "binhex"]
 
@@ -91,20 +93,32 @@ def too_much(took, seconds, memory, slow):
     return f"it took {took.memory // MB} MB" if took.memory > memory else None
 
 
+def making(count):
+    """The processor time that this system takes to make so many folders with one file in each."""
+    with room() as folder:
+        before = os.times()
+        for it in range(count):
+            os.mkdir(os.path.join(folder, str(it)))
+            write(b"", folder, str(it), "file")
+        after = os.times()
+    return after.user + after.system - before.user - before.system
+
+
 class Limits:
     """The processor time and the memory that commands may take, and what they are run on."""
 
     def __init__(self, bench, seconds, memory):
         self.bench, self.seconds, self.memory, self.slow = bench, seconds, memory, slowness()
 
-    def fault_of(self, words, make, statuses=range(5), named=None):
-        """What is wrong with a command in a folder that is made for it: what it takes, its status, and that it names a file."""
+    def fault_of(self, words, make, statuses=range(5), named=None, files=0):
+        """What is wrong with a command in a folder that is made for it: what it takes, its status, and that it names a file. One that writes so many files
+        may take what the system takes for making them, too."""
         with room() as folder:
             ready(folder)
             make(folder)
             before = os.listdir(folder)
             took = self.bench.measured([os.path.join(folder, "out") if word == "OUT" else word for word in words], folder, seconds=8)
-            fault = too_much(took, self.seconds, self.memory, self.slow)
+            fault = too_much(took, self.seconds + MAKING * making(files) / self.slow, self.memory, self.slow)
             if not fault and took.status not in statuses:
                 fault = str(took)
             if not fault and named and (named not in took.told or "has no memory" in took.told or "out of memory" in took.told.lower()):
@@ -278,7 +292,8 @@ def squares(bench):
     fork = many_types(3000)
     assert len(read_fork(fork)) == 3000
     for words in every_command():
-        yield f"{' '.join(words)}, a fork of 3,000 types", limits.fault_of(words, lambda folder: write(fork, folder, "f"))
+        files = 3000 if words[0] == "unpack" else 0
+        yield f"{' '.join(words)}, a fork of 3,000 types", limits.fault_of(words, lambda folder: write(fork, folder, "f"), files=files)
 
 
 def rows(bench):

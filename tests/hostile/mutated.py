@@ -17,6 +17,8 @@ from hostile.bounds import CONTAINERS, manifest, ready
 from model.mutations import changed, corpus, mutation, some_resource
 
 SECONDS, TIMES = 2, 10
+# of more files than these, each is tried with one of so many parts of the commands
+MANY, PARTS = 4000, 4
 # pages of the program that one run reads in and another doesn't, in kilobytes
 PAGES = 1024
 WORKERS = 4
@@ -137,8 +139,8 @@ def stamps(folder):
 class Tries:
     """Runs of commands on changed files, in one process of several."""
 
-    def __init__(self, bench, files, starts, slow):
-        self.bench, self.files, self.starts, self.slow = bench, files, starts, slow
+    def __init__(self, bench, files, starts, slow, parts):
+        self.bench, self.files, self.starts, self.slow, self.parts = bench, files, starts, slow, parts
 
     def took_fault(self, words, took, kilobytes):
         """What is wrong with what a command took and printed, or None."""
@@ -165,13 +167,13 @@ class Tries:
         return f"{took}, it made or changed {wrong[:5]}" if wrong else None
 
     def tried(self, number):
-        """Runs each command on the file of this number. The result is how many, and what is wrong."""
+        """Runs each command on the file of this number, or each of its part of them. The result is how many, and what is wrong."""
         choices = random.Random(number)
         what, bad, good = mutation(self.files, number)
         count, faults = 0, []
         with tempfile.TemporaryDirectory() as folder:
             room = Room(folder, bad, good, *texts(choices))
-            for words in commands(*some_resource(choices, good)):
+            for words in list(commands(*some_resource(choices, good)))[number % self.parts :: self.parts]:
                 count += 1
                 if fault := self.fault_of(words, room):
                     faults.append(f"mutation {number}, {what}: {' '.join(words)}: {fault}")
@@ -207,7 +209,7 @@ def tried(number):
 def rows(bench, count):
     """So many changed files, several at once."""
     files = corpus()
-    TRIES[:] = [Tries(bench, files, None if bench.cannot_be_bounded() else starts_of(bench), slowness())]
+    TRIES[:] = [Tries(bench, files, None if bench.cannot_be_bounded() else starts_of(bench), slowness(), PARTS if count > MANY else 1)]
     runs, faults = 0, []
     with concurrent.futures.ProcessPoolExecutor(WORKERS, multiprocessing.get_context("fork")) as pool:
         for some, wrong in pool.map(tried, range(1, count + 1), chunksize=max(1, min(16, count // 16))):
