@@ -16,7 +16,7 @@ use crate::stores::{
 };
 use fork_disk::store::ForkStore;
 use mac_base::zone_spec::ZoneSpec;
-use path_text::Lines;
+use path_text::{Lines, in_lines};
 use script_run::{Counted, RunEnd, run, status, tell_no_memory, write_whole};
 use script_text::Wrong;
 use std::alloc::{AllocError, Global};
@@ -75,7 +75,7 @@ pub fn program<
 {
     match asked_by(alloc, words) {
         Ok(asked) => answer(alloc, opener, asked, input, output, messages),
-        Err(error) => refuse(alloc, &error, output, messages),
+        Err(error) => refuse(alloc, words, &error, output, messages),
     }
 }
 
@@ -252,8 +252,9 @@ fn tell_unopened<M: Write>(path: &str, why: NotOpened, messages: &mut Counted<M>
 }
 
 /// Says why the words ask for nothing, and gives the exit status.
-fn refuse<W: Write, M: Write>(
+fn refuse<T: AsStr, W: Write, M: Write>(
     alloc: Global,
+    words: &[T],
     error: &NotAsked,
     output: &mut Counted<W>,
     messages: &mut Counted<M>,
@@ -264,7 +265,7 @@ fn refuse<W: Write, M: Write>(
     if lacks_memory(error) {
         return status(tell_no_memory(output));
     }
-    tell(alloc, error, messages);
+    tell_bad_words(alloc, words, error, messages);
     BAD_WORDS
 }
 
@@ -276,6 +277,26 @@ fn lacks_memory(error: &NotAsked) -> bool
         NotAsked::HostFull => true,
         _ => false,
     }
+}
+
+/// Writes why these words ask for nothing. No line of the message ends within a word.
+fn tell_bad_words<T: AsStr, M: Write>(
+    alloc: Global,
+    words: &[T],
+    error: &NotAsked,
+    messages: &mut Counted<M>,
+)
+    ensures { (text : List ℕ) × (text ≢ []) × (said : List ℕ) × Took M.contents messages.old said messages.new
+        × Wrote text (RoseByOne messages.old.failures messages.new.failures) said }
+{
+    if let NotAsked::Words(_) = error
+        && let Ok(shown) = in_lines(alloc, words)
+        && let Err(NotAsked::Words(shown_error)) = asked_by(alloc, shown.as_slice())
+    {
+        tell(alloc, &shown_error, messages);
+        return;
+    }
+    tell(alloc, error, messages);
 }
 
 /// What is wrong with the words or a line. It may have in it what others wrote.

@@ -11,6 +11,6 @@ mod shell_word;
 
 pub use file_name::{FileName, is_plain};
 pub use harm::is_harmful;
-pub use lines::{Line, Lines};
+pub use lines::{Line, Lines, in_lines};
 pub use pieces::{Pieces, quoted};
 pub use shell_word::ShellWord;

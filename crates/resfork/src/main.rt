@@ -33,7 +33,7 @@ use fork_words::asked::{
 use fork_words::{INPUT, work as asked_change};
 use host::Host;
 use input::{NotRead, read_file, read_within};
-use lines::in_lines;
+use lines::with_words_in_lines;
 use mac_files::OldFile;
 use message::{BAD_WORDS, CANT_GO_ON, DONE, NO_FORK, Problem, tell_bad_words, tell_problem};
 use parts::{answer_by_parts, list_by_parts};
@@ -61,7 +61,7 @@ fn run(rt: &HostRuntime) -> u8
     };
     match asked_by(rt.alloc(), words.as_slice()) {
         Ok(Command { asked, limit }) => done(&Host { rt, limit }, asked),
-        Err(fault) => tell_bad_words(rt, &in_lines(rt.alloc(), words.as_slice(), fault)),
+        Err(fault) => tell_bad_words(rt, &with_words_in_lines(rt.alloc(), words.as_slice(), fault)),
     }
 }
 
