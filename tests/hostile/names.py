@@ -168,10 +168,12 @@ def macheap_says(bench):
 
 
 def macheap_words(bench):
-    """And a word that is no option of its own."""
+    """And a word that is no option of its own, in as many lines as a harmless one."""
+    lines = bench.run([f"--{FIRST}{LAST}"], bench.folder, program=bench.macheap).told.count("\n")
     for bad in BAD:
         took = bench.run([f"--{FIRST}{bad}{LAST}"], bench.folder, program=bench.macheap)
-        yield f"macheap --{FIRST}{bad}{LAST}", took.says(2) or (f"it says {took.told!r}" if RAW.search(took.told) or FIRST not in took.told else None)
+        is_right = not RAW.search(took.told) and FIRST in took.told and took.told.count("\n") == lines
+        yield f"macheap --{FIRST}{bad}{LAST}", took.says(2) or (None if is_right else f"it says {took.told!r}")
 
 
 def words_typed(advice, folder):
