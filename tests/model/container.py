@@ -8,7 +8,7 @@ import struct
 
 DIGITS = {byte: value for value, byte in enumerate(b"!\"#$%&'()*+,-012345689@ABCDEFGHIJKLMNPQRSTUVXYZ[`abcdefhijklmpqr")}
 # the part of the comment that all tools have; macutils goes on otherwise than RFC 1741
-COMMENT = re.compile(rb"(?:\A|[\r\n])\(This file must be converted")
+COMMENT = re.compile(rb"(?:\A|[\r\n])[\t ]*\(This file must be converted")
 
 # what is said of a container that is damaged, or has no such fork
 TOLD = {
@@ -77,7 +77,7 @@ def decoded(file, start):
         if byte == 58:
             fault = None
             break
-        if byte in b"\r\n":
+        if byte in b"\t\n\r ":
             continue
         if byte not in DIGITS:
             break
@@ -104,7 +104,7 @@ def decoded(file, start):
 
 def in_bin_hex(file, after):
     """The fork in a BinHex text, whose first colon begins a line after the comment."""
-    colon = re.compile(rb"(?:(?<=[\r\n])|\A):").search(file, after)
+    colon = re.compile(rb"(?:(?<=[\r\n])|\A)[\t ]*:").search(file, after)
     must(colon, "no text")
     values, fault = decoded(file, colon.end())
     at = 0

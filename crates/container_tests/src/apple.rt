@@ -4,7 +4,7 @@ use mac_files::container::Container;
 use mac_files::contents::{Contents, Dates, FinderInfo};
 use mac_files::fault::{ContainerFault, Entry};
 use mac_files::part::Part;
-use mac_files::{container_of, fork_in, read_contents};
+use mac_files::{OldFile, container_of, read_contents};
 
 /// AppleSingle of version 1. Its entries are listed in the order 2, 3, 1, 9, 8, and lie in the order 3, 9, 2, 1, 8,
 /// with a byte of no entry before the resource fork.
@@ -79,9 +79,10 @@ fn reads_each_front_of_a_single(rt: HostRuntime) {
             "{length} bytes"
         );
     }
+    let opened = OldFile::open(rt.alloc(), SINGLE).ok();
     assert_eq!(rt;
-        fork_in(Container::AppleSingle, SINGLE),
-        Ok(Some(b"FRK".as_slice()))
+        opened.as_ref().map(|file| file.fork()),
+        Some(b"FRK".as_slice())
     );
 }
 
@@ -97,8 +98,9 @@ fn reads_a_double(rt: HostRuntime) {
     };
     assert_eq!(rt; container_of(DOUBLE), Some(Container::AppleDouble));
     assert_eq!(rt; read_contents(Container::AppleDouble, DOUBLE), Ok(wanted));
+    let opened = OldFile::open(rt.alloc(), DOUBLE).ok();
     assert_eq!(rt;
-        fork_in(Container::AppleDouble, DOUBLE),
-        Ok(Some(b"FRK".as_slice()))
+        opened.as_ref().map(|file| file.fork()),
+        Some(b"FRK".as_slice())
     );
 }

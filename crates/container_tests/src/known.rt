@@ -3,7 +3,8 @@
 use mac_files::archive::Archive;
 use mac_files::bin_hex::is_bin_hex;
 use mac_files::container::Container;
-use mac_files::{archive_of, container_of, is_raw};
+use mac_files::kind::FileKind;
+use mac_files::{container_of, is_raw, kind_of};
 use std::alloc::{AllocError, Global};
 
 /// The beginning of a file: these bytes at a place, and zeros.
@@ -99,8 +100,10 @@ fn knows_archives(rt: HostRuntime) -> Result<(), AllocError> {
     ];
     for (bytes, at, wanted) in cases {
         let file = beginning(rt.alloc(), bytes, at)?;
-        assert_eq!(rt; container_of(&file), None);
-        assert_eq!(rt; archive_of(&file), wanted);
+        assert_eq!(rt;
+            kind_of(&file),
+            wanted.map_or(FileKind::Unknown, FileKind::Archive)
+        );
     }
     Ok(())
 }

@@ -1,8 +1,9 @@
 //! Files with another resource fork, and files that are written in another container.
 
+use mac_files::OldFile;
 use mac_files::container::{Container, Version};
 use mac_files::contents::FinderInfo;
-use mac_files::fork_in;
+use mac_files::kind::FileKind;
 use mac_write::mac_file::MacFile;
 use mac_write::refusal::Refusal;
 use mac_write::{Target, parts_of, with_fork, write_file};
@@ -111,13 +112,13 @@ fn writes_mac_binary(rt: HostRuntime) -> Result<(), Refusal> {
     let longer = with_fork(rt.alloc(), container, &file, b"FORKING")?;
     assert_eq!(rt; longer.len(), 512);
     assert!(rt; longer.starts_with(&longer_header(rt.alloc())?));
-    assert_eq!(rt; fork_in(container, &file), Ok(Some(b"FORK!".as_slice())));
-    assert_eq!(rt;
-        fork_in(container, &longer),
-        Ok(Some(b"FORKING".as_slice()))
-    );
-    let told = parts_of(container, &longer)?;
+    let Ok(opened) = OldFile::open(rt.alloc(), &longer) else {
+        return Err(Refusal::HostFull);
+    };
+    assert_eq!(rt; opened.kind(), FileKind::Container(container));
+    let told = parts_of(&opened);
     assert_eq!(rt; told.data_fork, b"abc".as_slice());
+    assert_eq!(rt; told.resource_fork, b"FORKING".as_slice());
     assert_eq!(rt; told.comment, b"hi".as_slice());
     Ok(())
 }

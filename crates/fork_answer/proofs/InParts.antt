@@ -1,8 +1,8 @@
 -- A file that is a resource fork, of which only some parts are read.
-use Rattle.std.proofs.Common.{◌≡◌, ◌≢◌, ◌∙◌, ◌⊎◌, min, refl, sym, ap, subst, inl, inr, ℕ, zero, suc, ◌≤◌, Bool, true, false, List, [], ◌∷◌, length, take, Option, None, Some, Result, Ok, Err, arith}
+use Rattle.std.proofs.Common.{◌≡◌, ◌∙◌, ◌⊎◌, min, refl, sym, ap, subst, inl, inr, ℕ, zero, suc, ◌≤◌, Bool, true, false, List, [], ◌∷◌, length, take, Option, None, Some, Result, Ok, Err, arith}
 use Rattle.std.specs.Prelude.{◌<◌, ◌&&◌, ◌||◌, not, is_none, is_some, slice_get, option_map, if◌then◌else◌, ⊤, MatchOption}
 use Rattle.std.specs.List.{AllByRecursion, filter}
-use Rattle.std.proofs.lemmas.Bool.{and_right, cases_lt, cond-true, cond-false, lt-leb, ne_eqb}
+use Rattle.std.proofs.lemmas.Bool.{and_right, cases_lt, cond-true, lt-leb}
 use Rattle.std.proofs.lemmas.List.{take_all}
 use Rattle.fork_bytes.specs.declared.fault.ForkFault.{ForkFault}
 use Rattle.fork_bytes.specs.declared.table.Table.{Table}
@@ -19,15 +19,20 @@ use Rattle.fork_rows.specs.Opening.{OpensAsWithin, Reads, filled}
 use Rattle.fork_rows.specs.declared.fault.OpenFault.TheVariants.{Fork}
 use Rattle.fork_rows.specs.declared.table.PlacedTable.{PlacedTable}
 use Rattle.fork_rows.proofs.Kept.{read_twice}
+use Rattle.mac_files.specs.declared.archive.Archive.{Archive}
 use Rattle.mac_files.specs.declared.container.Container.{Container}
 use Rattle.mac_files.specs.declared.container.Container.TheVariants.{Raw}
+use Rattle.mac_files.specs.declared.kind.FileKind.TheVariants.{Container as In}
+use Rattle.mac_files.specs.Archives.{archive_of}
 use Rattle.mac_files.specs.BinHex.{comment_of, is_bin_hex}
 use Rattle.mac_files.specs.Containers.{container_of, has_fork_parts, is_fork_header, is_raw, is_raw_by}
-use Rattle.mac_files.specs.Parts.{bytes_of, has_bytes}
+use Rattle.mac_files.specs.Kinds.{first_kind}
+use Rattle.mac_files.specs.OldFiles.{fork_said, read_as}
+use Rattle.mac_files.proofs.Alone.{alone_fork}
 use Rattle.mac_files.proofs.Known.{raw}
 use Rattle.fork_answer.specs.Answer.{Answers, IsAsked, Shows, Writes, wanted_row}
 use Rattle.fork_answer.specs.InParts.{HasRows, IsForkWith, IsNoForkWith, IsNotRaw, IsReadAs, Never, ShowsRows}
-use Rattle.fork_answer.specs.Source.{IsForkAs, IsForkElsewhere, IsForkIn}
+use Rattle.fork_answer.specs.Source.{IsForkIn}
 use Rattle.fork_answer.specs.declared.answer.Failure.{Failure}
 use Rattle.fork_answer.specs.declared.answer.Failure.TheVariants as failure
 use Rattle.fork_answer.specs.declared.request.Choice.{Choice}
@@ -68,21 +73,22 @@ is_long file is = elim (cases_lt (length file) 16) [
 ]
 
 -- the fork in a file that is known as a fork is the whole of it
-whole_part : (file : List ℕ) → 16 ≤ length file → option_map (λ part. bytes_of part file) (has_bytes (record { offset = 0; length = length file })) ≡ Some file
-whole_part file long =
-    let some : length file ≢ 0 = λ none. omega (arith, long, none) in
-    ap (option_map (λ part. bytes_of part file)) (cond-false _ _ _ (ne_eqb (length file) 0 some)) ∙ ap (λ (bytes : List ℕ). Some bytes) (take_all (length file) file (omega arith))
-
--- what is known as a fork by its header is so; what has a header and is in no container isn't BinHex
 known_fork : (file : List ℕ) → 16 ≤ length file → container_of file ≡ Some Raw → IsForkIn file file
-known_fork file long is = let P : Option Container → Type 0 = λ known. IsForkAs known file file in subst P (sym is) (refl, whole_part file long)
+known_fork file long is =
+    let P : Option Container → Type 0 = λ known. fork_said (read_as (first_kind known (is_bin_hex file) (archive_of file)) file) ≡ Ok (Some file) in
+    subst P (sym is) (alone_fork (In Raw) file (omega (arith, long)) refl)
 
-known_elsewhere : (file : List ℕ) → container_of file ≡ None → has_fork_parts (length file) file ≡ true → IsForkIn file file
-known_elsewhere file none parts =
-    let P : Option Container → Type 0 = λ known. IsForkAs known file file in
-    let Q : Bool → Type 0 = λ text. IsForkElsewhere text file file in
+-- what has a header and is in no container isn't BinHex
+known_elsewhere : (file : List ℕ) → 16 ≤ length file → container_of file ≡ None → has_fork_parts (length file) file ≡ true → IsForkIn file file
+known_elsewhere file long none parts =
+    let P : Option Container → Type 0 = λ known. fork_said (read_as (first_kind known (is_bin_hex file) (archive_of file)) file) ≡ Ok (Some file) in
+    let Q : Bool → Type 0 = λ text. fork_said (read_as (first_kind None text (archive_of file)) file) ≡ Ok (Some file) in
     let no_text : is_bin_hex file ≡ false = ap (λ (b : Bool). not b && is_some (comment_of file)) parts in
-    subst P (sym none) (subst Q (sym no_text) refl)
+    subst P (sym none) (subst Q (sym no_text) (elsewhere (archive_of file)))
+  where
+    elsewhere : (archive : Option Archive) → fork_said (read_as (first_kind None false archive) file) ≡ Ok (Some file)
+    elsewhere None = refl
+    elsewhere (Some archive) = refl
 
 pub is_fork_in : (file : List ℕ) → 16 ≤ length file → is_raw file ≡ true → IsForkIn file file
 is_fork_in file long is = by_header (is_fork_header file) (container_of file) refl refl is
@@ -90,7 +96,7 @@ is_fork_in file long is = by_header (is_fork_header file) (container_of file) re
     by_header : (header : Bool) (known : Option Container) → is_fork_header file ≡ header → container_of file ≡ known
         → (header || (is_none known && has_fork_parts (length file) file)) ≡ true → IsForkIn file file
     by_header true known header other is = known_fork file long (cond-true _ _ _ header)
-    by_header false None header none is = known_elsewhere file none is
+    by_header false None header none is = known_elsewhere file long none is
     by_header false (Some container) header some is = absurd (cc is)
 
 -- a file that is known as a fork, which was opened

@@ -2,3 +2,4 @@ pub mod Grouping
 pub mod Lining
 pub mod Mending
 mod InParts
+pub mod Opened

@@ -16,5 +16,5 @@ pub use answer::{Failure, read_table};
 pub use line::salvage_listing;
 pub use mend::mended_fork;
 pub use parts::{answer_in_parts, rows_in_parts};
-pub use source::{Found, NoFork, name_of_container, resource_fork};
+pub use source::{NoFork, resource_fork};
 pub use table::salvaged_table;

@@ -1,57 +1,21 @@
--- What a file of any kind is, and what comes of it in another container.
+-- What comes of a file in another container.
 use Rattle.std.specs.Prelude.{◌≡◌, ◌≢◌, ℕ, Bool, true, false, ◌&&◌, not, if◌then◌else◌, ◌⊎◌, List, [], ◌∷◌, ◌++◌, map, Option, None, Some, Result, Ok, Err, ⊤}
 use Rattle.mac_files.specs.declared.container.Container.{Container}
 use Rattle.mac_files.specs.declared.container.Container.TheVariants.{Raw, AppleSingle, AppleDouble, MacBinary}
-use Rattle.mac_files.specs.Containers.{container_of, fault_of}
-use Rattle.mac_files.specs.BinHex.{File, bin_hex_of, is_bin_hex}
-use Rattle.mac_files.specs.BinHexFiles.{view as bin_hex_view}
-use Rattle.mac_write.specs.Parts.{Parts, bin_hex_parts, parts_of, view}
+use Rattle.mac_files.specs.Containers.{container_of}
+use Rattle.mac_write.specs.Parts.{Parts, view}
 use Rattle.mac_write.specs.declared.detail.Detail.{Detail}
 use Rattle.mac_write.specs.declared.detail.Detail.TheVariants.{Comment, DataFork, Dates, Finder, Name}
 use Rattle.mac_write.specs.Lost.{holds, is_lost}
 use Rattle.mac_write.specs.Targets.{text_of, unwritten}
 use Rattle.mac_write.specs.Written.{held}
-use Rattle.fork_answer.specs.Source.{IsNoForkElsewhere}
-use Rattle.fork_answer.specs.declared.source.NoFork.{NoFork}
-use Rattle.fork_answer.specs.declared.source.NoFork.TheVariants as none
 use Rattle.fork_edit.specs.Extras.{extras}
 use Rattle.fork_edit.specs.declared.convert.Rewritten.{Rewritten}
 use Rattle.fork_edit.specs.declared.convert.Loss.{Loss}
 use Rattle.fork_edit.specs.declared.convert.Loss.TheVariants as loss
 use Rattle.fork_edit.specs.declared.convert.NotConverted.{NotConverted}
 use Rattle.fork_edit.specs.declared.convert.NotConverted.TheVariants as unconverted
-use Rattle.fork_edit.specs.declared.convert.Source.{Source}
 use Rattle.fork_edit.specs.declared.convert.Transfer.{Transfer}
-use Rattle.fork_edit.specs.declared.convert.Source.TheVariants.{Parts as Whole, Text}
-
--- the file that was found
-abbrev pub file_in : Source → Parts
-file_in (Whole file) = view file
-file_in (Text file) = bin_hex_parts (bin_hex_view file)
-
--- what bytes are that are in no container: what their BinHex text stands for, or nothing but a fork
-abbrev pub IsFileElsewhere : Bool → List ℕ → Parts → Type 0
-IsFileElsewhere true bytes file = (read : File) × (bin_hex_of bytes ≡ Ok read) × (file ≡ bin_hex_parts read)
-IsFileElsewhere false bytes file = file ≡ parts_of Raw bytes
-
--- what bytes are that are known as a container: what it says
-abbrev pub IsFileAs : Option Container → List ℕ → Parts → Type 0
-IsFileAs None bytes file = IsFileElsewhere (is_bin_hex bytes) bytes file
-IsFileAs (Some container) bytes file = (fault_of container bytes ≡ None) × (file ≡ parts_of container bytes)
-
--- the file that bytes hold
-abbrev pub IsFileOf : List ℕ → Parts → Type 0
-IsFileOf bytes file = IsFileAs (container_of bytes) bytes file
-
--- why bytes hold no file: the first fault of their container or of their text, or want of memory
-abbrev pub IsNoFileAs : Option Container → List ℕ → NoFork → Type 0
-IsNoFileAs None bytes fault = IsNoForkElsewhere (is_bin_hex bytes) bytes fault
-IsNoFileAs (Some container) bytes (none.Container fault) = fault_of container bytes ≡ Some fault
-IsNoFileAs (Some container) bytes other = ⊥
-
--- the same by what they are known as
-abbrev pub IsNoFileOf : List ℕ → NoFork → Type 0
-IsNoFileOf bytes fault = IsNoFileAs (container_of bytes) bytes fault
 
 -- the same file with a name and a data fork
 abbrev pub completed : Parts → List ℕ → List ℕ → Parts

@@ -1,84 +1,21 @@
 //! A file that is written in another container.
 
-ghost use Rattle.std.specs.Prelude.{◌≡◌, ◌++◌, [], map, None, Some, false, true, IfErr, IfOk, OnOk};
+ghost use Rattle.std.specs.Prelude.{◌≡◌, ◌++◌, [], map, IfOk, OnOk};
 ghost use Rattle.mac_files.specs.Containers.{container_of};
-ghost use Rattle.mac_files.specs.BinHex.{is_bin_hex};
 ghost use Rattle.mac_write.specs.Lost.{holds};
 ghost use Rattle.mac_write.specs.Parts.{view};
 ghost use Rattle.mac_write.specs.Written.{IsReadAgain};
-ghost use Rattle.fork_answer.specs.Source.{IsNoForkElsewhere};
-ghost use Rattle.fork_edit.specs.Convert.{IsConverted, IsFileAs, IsFileElsewhere, IsFileOf, IsHeldWhole, IsNoFileAs, IsNoFileOf, file_in, is_data_beside, is_left_out, lacks_data, losses, lost_details, new_file, told};
+ghost use Rattle.fork_edit.specs.Convert.{IsConverted, IsHeldWhole, is_data_beside, is_left_out, lacks_data, losses, lost_details, new_file, told};
 
 use crate::extra::{Extra, extras};
-use fork_answer::NoFork;
-use mac_files::bin_hex::fault::BinHexFault;
-use mac_files::bin_hex::file::BinHexFile;
-use mac_files::bin_hex::{is_bin_hex, read_bin_hex};
 use mac_files::container::Container;
 use mac_files::container_of;
 use mac_write::detail::{Detail, is_lost};
 use mac_write::mac_file::MacFile;
 use mac_write::refusal::Refusal;
-use mac_write::{Target, bin_hex_parts, know_file, parts_of, write_file, written_laws};
+use mac_write::{Target, know_file, write_file, written_laws};
 use std::alloc::{AllocError, Global};
 use thiserror::Error;
-
-/// A file that was found in bytes.
-#[derive(Drop)]
-pub enum Source<'a> {
-    /// Its parts are parts of the bytes.
-    Parts(MacFile<'a>),
-    /// What a BinHex text stands for.
-    Text(BinHexFile),
-}
-
-impl Source<'_> {
-    /// What the file is.
-    pub fn file(&self) -> MacFile<'_>
-        ensures { view result ≡ file_in self.now }
-    {
-        match self {
-            Source::Parts(file) => *file,
-            Source::Text(text) => bin_hex_parts(text),
-        }
-    }
-}
-
-/// The file of bytes in this container.
-fn file_in_container<'a>(container: Container, bytes: &'a [u8]) -> Result<Source<'a>, NoFork>
-    ensures file { IfOk result (λ source. IsFileAs (Some container) bytes.now (file_in source)) }
-    ensures none { IfErr result (IsNoFileAs (Some container) bytes.now) }
-{
-    match parts_of(container, bytes) {
-        Ok(file) => Ok(Source::Parts(file)),
-        Err(fault) => Err(NoFork::Container(fault)),
-    }
-}
-
-/// The file of a BinHex text.
-fn file_in_text<'a>(alloc: Global, bytes: &'a [u8]) -> Result<Source<'a>, NoFork>
-    ensures file { IfOk result (λ source. IsFileElsewhere true bytes.now (file_in source)) }
-    ensures none { IfErr result (IsNoForkElsewhere true bytes.now) }
-{
-    match read_bin_hex(alloc, bytes) {
-        Ok(text) => Ok(Source::Text(text)),
-        Err(BinHexFault::HostFull) => Err(NoFork::HostFull),
-        Err(fault) => Err(NoFork::Text(fault)),
-    }
-}
-
-/// The file that bytes hold: what their container says, what their BinHex text stands for, or nothing but a resource
-/// fork. Each refusal comes exactly where it is defined, but for HostFull.
-pub fn file_of<'a>(alloc: Global, bytes: &'a [u8]) -> Result<Source<'a>, NoFork>
-    ensures file { IfOk result (λ source. IsFileOf bytes.now (file_in source)) }
-    ensures none { IfErr result (IsNoFileOf bytes.now) }
-{
-    match container_of(bytes) {
-        Some(container) => file_in_container(container, bytes),
-        None if is_bin_hex(bytes) => file_in_text(alloc, bytes),
-        None => file_in_container(Container::Raw, bytes),
-    }
-}
 
 /// Something of a file that isn't in its new container.
 #[derive(Clone, Copy, Debug, PartialEq, Eq, Error)]

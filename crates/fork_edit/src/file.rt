@@ -1,26 +1,28 @@
 //! The table of the resource fork in a file, and the file with another table in its place.
 
-ghost use Rattle.std.specs.Prelude.{◌≡◌, ◌≤◌, ◌⊎◌, ◌↔◌, true, length, option_map, IfErr, IfOk, IsErrOf, OnOk};
+ghost use Rattle.std.specs.Prelude.{◌≡◌, ◌≤◌, ◌⊎◌, ◌↔◌, length, option_map, IfErr, IfOk, IsErrOf, OnOk};
 ghost use Rattle.std.specs.Result.{result_err};
 ghost use Rattle.mac_files.specs.BinHex.{bin_hex_of};
-ghost use Rattle.mac_files.specs.Containers.{container_of};
+ghost use Rattle.mac_files.specs.Kinds.{kind_of};
+ghost use Rattle.mac_files.specs.OldFiles.{fork_of};
 ghost use Rattle.mac_write.specs.Forks.{refusal, with_fork};
 ghost use Rattle.fork_bytes.specs.Fork.{format_limits};
 ghost use Rattle.fork_bytes.specs.Written.{IsTooBigWithin};
 ghost use Rattle.fork_answer.specs.Answer.{IsTableOf};
-ghost use Rattle.fork_answer.specs.Source.{IsForkIn, fork_of};
-ghost use Rattle.fork_edit.specs.Files.{HasTable, IsForkBy, IsKeptAs, IsKeptElsewhere, IsNoSourceIn, IsSourceOf, Refuses, RefusesFork, alone_why, is_alone, kept_why, text_why};
+ghost use Rattle.fork_answer.specs.Source.{IsForkIn};
+ghost use Rattle.fork_edit.specs.Files.{HasTable, IsForkBy, IsKeptAs, IsNoSourceIn, IsSourceOf, Refuses, RefusesFork, alone_why, kept_why, text_why};
 
-use fork_answer::{Found, NoFork, read_table, resource_fork};
+use fork_answer::{NoFork, read_table};
 use fork_bytes::fault::{ForkFault, WriteFault};
 use fork_bytes::layout::Limits;
 use fork_bytes::table::Table;
 use fork_bytes::write_fork_within;
 use fork_change::is_same_table;
 use mac_files::bin_hex::fault::BinHexFault;
-use mac_files::bin_hex::{is_bin_hex, read_bin_hex};
+use mac_files::bin_hex::read_bin_hex;
 use mac_files::container::{Container, Version};
-use mac_files::container_of;
+use mac_files::kind::FileKind;
+use mac_files::{OldFile, kind_of};
 use mac_write::refusal::Refusal;
 use mac_write::{text_with_fork, with_fork};
 use std::alloc::Global;
@@ -74,17 +76,22 @@ impl From<BinHexFault> for NotWritten {
     }
 }
 
-/// The resource fork in a file. In a container without one it has no bytes; but what only seems to be MacBinary I,
-/// which has no signature, isn't taken for a container without one.
-pub fn fork_or_none<'a>(alloc: Global, file: &'a [u8]) -> Result<Found<'a>, NoFork>
+/// The file that bytes hold. In a container without a resource fork it has one of no bytes; but what only seems to be
+/// MacBinary I, which has no signature, isn't taken for a container without one.
+pub fn fork_or_none<'a>(alloc: Global, file: &'a [u8]) -> Result<OldFile<'a>, NoFork>
     ensures fork { IfOk result (λ found. IsSourceOf file.now (fork_of found)) }
     ensures none { IfErr result (IsNoSourceIn file.now) }
 {
-    match resource_fork(alloc, file) {
-        Err(NoFork::Absent) if container_of(file) != Some(Container::MacBinary(Version::I)) => {
-            Ok(Found::Part(&[]))
-        }
-        found => found,
+    let found = match OldFile::open(alloc, file) {
+        Ok(found) => found,
+        Err(fault) => return Err(NoFork::File(fault)),
+    };
+    if found.has_fork() {
+        return Ok(found);
+    }
+    match found.kind() {
+        FileKind::Container(Container::MacBinary(Version::I)) => Err(NoFork::Absent),
+        _ => Ok(found),
     }
 }
 
@@ -121,25 +128,14 @@ fn read_back(alloc: Global, fork: &[u8], table: &Table) -> Result<(), NotWritten
 /// The file with these bytes as its resource fork, which aren't none.
 fn kept_with(alloc: Global, file: &[u8], fork: Vec<u8>) -> Result<Vec<u8>, NotWritten>
     requires { 1 ≤ length fork.items }
-    ensures refused { RefusesFork (kept_why (container_of file.now) file.now fork.items) (result_err result) }
+    ensures refused { RefusesFork (kept_why (kind_of file.now) file.now fork.items) (result_err result) }
     ensures found { IfOk result (λ new. IsForkIn new.items fork.items) }
-    ensures kept { IfOk result (λ new. IsKeptAs (container_of file.now) file.now fork.items new.items) }
+    ensures kept { IfOk result (λ new. IsKeptAs (kind_of file.now) file.now fork.items new.items) }
 {
-    match container_of(file) {
-        Some(container) => kept_as(alloc, container, file, fork),
-        None if is_bin_hex(file) => kept_in_text(alloc, file, &fork),
-        None => kept_alone(fork),
-    }
-}
-
-/// Whether bytes are taken for nothing but a resource fork.
-fn is_alone(bytes: &[u8]) -> bool
-    ensures { result ≡ is_alone (container_of bytes.now) bytes.now }
-{
-    match container_of(bytes) {
-        Some(Container::Raw) => true,
-        Some(Container::AppleSingle | Container::AppleDouble | Container::MacBinary(_)) => false,
-        None => !is_bin_hex(bytes),
+    match kind_of(file) {
+        FileKind::Container(container) => kept_as(alloc, container, file, fork),
+        FileKind::BinHex => kept_in_text(alloc, file, &fork),
+        FileKind::Archive(_) | FileKind::Unknown => kept_alone(fork),
     }
 }
 
@@ -150,7 +146,7 @@ fn kept_alone(fork: Vec<u8>) -> Result<Vec<u8>, NotWritten>
     ensures same { IfOk result (λ new. new.items ≡ fork.items) }
     ensures found { IfOk result (λ new. IsForkIn new.items fork.items) }
 {
-    if is_alone(&fork) {
+    if kind_of(&fork).is_alone() {
         Ok(fork)
     } else {
         Err(NotWritten::Mistaken)
@@ -165,10 +161,10 @@ fn kept_as(
     fork: Vec<u8>,
 ) -> Result<Vec<u8>, NotWritten>
     requires fork { 1 ≤ length fork.items }
-    requires known { container_of file.now ≡ Some container }
-    ensures refused { RefusesFork (kept_why (Some container) file.now fork.items) (result_err result) }
+    requires known { kind_of file.now ≡ FileKind.Container container }
+    ensures refused { RefusesFork (kept_why (FileKind.Container container) file.now fork.items) (result_err result) }
     ensures found { IfOk result (λ new. IsForkIn new.items fork.items) }
-    ensures kept { IfOk result (λ new. IsKeptAs (Some container) file.now fork.items new.items) }
+    ensures kept { IfOk result (λ new. IsKeptAs (FileKind.Container container) file.now fork.items new.items) }
 {
     match container {
         Container::Raw => kept_alone(fork),
@@ -186,7 +182,7 @@ fn kept_in(
     fork: &[u8],
 ) -> Result<Vec<u8>, NotWritten>
     requires fork { 1 ≤ length fork.now }
-    requires known { container_of file.now ≡ Some container }
+    requires known { kind_of file.now ≡ FileKind.Container container }
     ensures refused { RefusesFork (option_map NotWritten.Container (refusal container file.now (length fork.now))) (result_err result) }
     ensures found { IfOk result (λ new. IsForkBy container new.items fork.now) }
     ensures kept { IfOk result (λ new. new.items ≡ with_fork container file.now fork.now) }
@@ -199,7 +195,7 @@ fn kept_in(
 fn kept_in_text(alloc: Global, file: &[u8], fork: &[u8]) -> Result<Vec<u8>, NotWritten>
     ensures refused { RefusesFork (text_why (bin_hex_of file.now) fork.now) (result_err result) }
     ensures found { IfOk result (λ new. IsForkIn new.items fork.now) }
-    ensures kept { IfOk result (λ new. IsKeptElsewhere true file.now fork.now new.items) }
+    ensures kept { IfOk result (λ new. IsKeptAs FileKind.BinHex file.now fork.now new.items) }
 {
     let text = read_bin_hex(alloc, file)?;
     let new = text_with_fork(alloc, &text, fork)?;

@@ -3,76 +3,47 @@ use Rattle.std.proofs.Common.{◌≡◌, ◌≢◌, ℕ, Bool, true, false, List
 use Rattle.std.specs.Prelude.{[], ◌==◌, ◌↔◌, ◌∷◌, IsTrue, length, not, is_some, String}
 use Rattle.std.specs.declared.alloc.AllocError.{AllocError}
 use Rattle.std.specs.declared.alloc.Global.{Global}
-use Rattle.std.proofs.lemmas.Bool.{ltb-true, ne_eqb, or_left, or_right}
+use Rattle.std.proofs.lemmas.Bool.{ltb-true, ne_eqb}
 use Rattle.fork_bytes.specs.declared.fault.ForkFault.{ForkFault}
 use Rattle.fork_bytes.specs.Fork.{IsForkWithin, RefusesWithin, format_limits}
 use Rattle.fork_salvage.specs.declared.fault.Fault.{Fault}
 use Rattle.fork_salvage.specs.Fault.{refusal_of}
 use Rattle.fork_salvage.proofs.Checked.{not_refused}
-use Rattle.mac_files.specs.declared.container.Container.{Container}
-use Rattle.mac_files.specs.declared.bin_hex.fault.BinHexFault.{BinHexFault}
-use Rattle.mac_files.specs.BinHex.{File, bin_hex_of, is_bin_hex}
-use Rattle.mac_files.specs.Containers.{container_of}
+use Rattle.mac_files.specs.declared.kind.FileKind.TheVariants.{BinHex}
+use Rattle.mac_files.specs.declared.old_file.FileFault.{FileFault}
+use Rattle.mac_files.specs.declared.old_file.FileFault.TheVariants.{Container, HostFull, Text}
+use Rattle.mac_files.specs.Kinds.{kind_of}
+use Rattle.mac_files.specs.OldFiles.{fork_said, old_file}
 use Rattle.fork_answer.specs.declared.source.NoFork.{NoFork}
 use Rattle.fork_answer.specs.declared.source.NoFork.TheVariants as no_fork
-use Rattle.fork_answer.specs.Source.{IsForkAs, IsForkElsewhere, IsForkIn, IsForkOfText, IsNoForkAs, IsNoForkElsewhere, IsNoForkIn}
+use Rattle.fork_answer.specs.Source.{IsForkIn, IsNoForkIn}
 use Rattle.fork_report.specs.declared.damage.Damage.{Damage}
-use Rattle.fork_report.specs.declared.damage.Holder.{Holder}
 use Rattle.fork_report.specs.declared.damage.Tally.{Tally}
-use Rattle.fork_report.specs.declared.damage.Holder.TheVariants as holder
 use Rattle.fork_report.specs.declared.refusal.Refusal.{Refusal}
 use Rattle.fork_report.specs.declared.refusal.Refusal.TheVariants as refusal
-use Rattle.fork_report.specs.Damage.{IsDamageOf, IsDamaged, holder_as, holder_of, is_known, is_readable, tally_of}
+use Rattle.fork_report.specs.Damage.{IsDamageOf, IsDamaged, is_readable, tally_of}
 use Rattle.fork_report.specs.Refused.{IsTakenForFork, IsToldOfFork}
 use Rattle.fork_report.specs.Reported.{TellsLeft}
 
+refused : (file fork : List ℕ) (why : FileFault) → IsForkIn file fork → old_file file ≡ Err why → ⊥
+refused file fork why has lacks = cc (sym has ∙ ap fork_said lacks)
+
 -- a fork that is damaged, in a file that is taken for one with a fork
 pub told_damaged : (file : List ℕ) (fault : ForkFault) (damage : Damage) (text : String Global) (told : Refusal) → (fork : List ℕ) × IsDamageOf file fork damage
-    → IsTakenForFork file damage → told ≡ refusal.Damaged text (is_readable damage.tally) → IsToldOfFork file fault told
+    → IsTakenForFork (kind_of file) damage → told ≡ refusal.Damaged text (is_readable damage.tally) → IsToldOfFork file fault told
 told_damaged file fault damage text told (fork, is_damage) taken is =
     subst (λ (r : Refusal). IsToldOfFork file fault r) (sym is) (fork, damage, is_damage, taken, refl)
 
--- a file with something that has the fork in it is known
-pub held_known : (file fork : List ℕ) (damage : Damage) (test : Bool) → IsDamageOf file fork damage → test ≡ is_some damage.holder → test ≡ true → is_known file ≡ true
-held_known file fork damage test is_damage is passes =
-    or_right (is_some (container_of file)) (is_some (holder_of file)) (ap (λ (h : Option Holder). is_some h) (sym is_damage.holder) ∙ sym is ∙ passes)
-
--- and so is one in a container
-pub contained_known : (file : List ℕ) (test : Bool) → test ≡ is_some (container_of file) → test ≡ true → is_known file ≡ true
-contained_known file test is passes = or_left (is_some (container_of file)) (is_some (holder_of file)) (sym is ∙ passes)
-
-apart_elsewhere : (is_text : Bool) (file fork : List ℕ) (fault : NoFork) → holder_as None is_text ≢ Some holder.BinHex
-    → IsForkElsewhere is_text file fork → IsNoForkElsewhere is_text file fault → ⊥
-apart_elsewhere true file fork fault other has lacks = absurd (other refl)
-apart_elsewhere false file fork fault other has lacks = lacks
-
-apart_as : (container : Option Container) (file fork : List ℕ) (fault : NoFork) → holder_as container (is_bin_hex file) ≢ Some holder.BinHex
-    → IsForkAs container file fork → IsNoForkAs container file fault → ⊥
-apart_as None file fork fault other has lacks = apart_elsewhere (is_bin_hex file) file fork fault other has lacks
-apart_as (Some container) file fork (no_fork.Container why) other (none, is) lacks = absurd cc
-apart_as (Some container) file fork no_fork.Absent other (none, is) (no_fault, no_part) = absurd cc
-apart_as (Some container) file fork (no_fork.Text why) other has lacks = lacks
-apart_as (Some container) file fork no_fork.HostFull other has lacks = lacks
-
 -- a file has a fork or lacks one, unless the host has no memory for that of a text
-pub apart : (file fork : List ℕ) (fault : NoFork) → holder_of file ≢ Some holder.BinHex → IsForkIn file fork → IsNoForkIn file fault → ⊥
-apart file fork fault other has lacks = apart_as (container_of file) file fork fault other has lacks
-
-same_of_text : (read : Result File BinHexFault) (a b : List ℕ) → IsForkOfText read a → IsForkOfText read b → a ≡ b
-same_of_text (Ok file) a b one other = one ∙ sym other
-same_of_text (Err fault) a b one other = absurd one
-
-same_elsewhere : (is_text : Bool) (file a b : List ℕ) → IsForkElsewhere is_text file a → IsForkElsewhere is_text file b → a ≡ b
-same_elsewhere true file a b one other = same_of_text (bin_hex_of file) a b one other
-same_elsewhere false file a b one other = one ∙ sym other
-
-same_as : (container : Option Container) (file a b : List ℕ) → IsForkAs container file a → IsForkAs container file b → a ≡ b
-same_as None file a b one other = same_elsewhere (is_bin_hex file) file a b one other
-same_as (Some container) file a b (none, is) (still, again) = cc
+pub apart : (file fork : List ℕ) (fault : NoFork) → kind_of file ≢ BinHex → IsForkIn file fork → IsNoForkIn file fault → ⊥
+apart file fork (no_fork.File HostFull) other has lacks = other lacks
+apart file fork (no_fork.File (Container why)) other has lacks = refused file fork (Container why) has lacks
+apart file fork (no_fork.File (Text why)) other has lacks = refused file fork (Text why) has lacks
+apart file fork no_fork.Absent other has lacks = cc (sym has ∙ lacks)
 
 -- and it has one
 pub same_fork : (file a b : List ℕ) → IsForkIn file a → IsForkIn file b → a ≡ b
-same_fork file a b one other = same_as (container_of file) file a b one other
+same_fork file a b one other = cc (sym one ∙ other)
 
 pub none_if : {A : Type 0} (found : Option A) (P : Type 0) → P → IfNone found P
 none_if None P holds = holds

@@ -1,5 +1,5 @@
 -- What is reported of a damaged fork.
-use Rattle.std.specs.Prelude.{◌≡◌, ◌≢◌, ℕ, ◌==◌, ◌||◌, Bool, true, false, nat_le, nat_lt, if◌then◌else◌, List, [], codes, length, Option, None, Some, is_some}
+use Rattle.std.specs.Prelude.{◌≡◌, ◌≢◌, ℕ, ◌==◌, ◌||◌, Bool, true, false, nat_le, nat_lt, if◌then◌else◌, List, [], length, Option, None, Some}
 use Rattle.std.specs.List.{list_any}
 use Rattle.fork_bytes.specs.declared.fault.Condition.TheVariants.{Parts}
 use Rattle.fork_bytes.specs.declared.fault.ForkFault.{ForkFault}
@@ -10,31 +10,11 @@ use Rattle.fork_salvage.specs.declared.salvage.Item.TheVariants as item
 use Rattle.fork_salvage.specs.Fault.{IsFault, refusal_of}
 use Rattle.fork_salvage.specs.Salvage.{items}
 use Rattle.fork_answer.specs.Salvaged.{readable}
-use Rattle.mac_files.specs.declared.container.Container.{Container}
-use Rattle.mac_files.specs.declared.container.Container.TheVariants.{Raw}
-use Rattle.mac_files.specs.BinHex.{is_bin_hex}
-use Rattle.mac_files.specs.Containers.{container_of}
-use Rattle.fork_answer.specs.Source.{IsForkIn, container_text}
+use Rattle.mac_files.specs.Kinds.{kind_of}
+use Rattle.fork_answer.specs.Source.{IsForkIn}
 use Rattle.fork_report.specs.declared.damage.TheConstants.{MOST_FOUND}
 use Rattle.fork_report.specs.declared.damage.Damage.{Damage}
-use Rattle.fork_report.specs.declared.damage.Holder.{Holder}
-use Rattle.fork_report.specs.declared.damage.Holder.TheVariants as holder
 use Rattle.fork_report.specs.declared.damage.Tally.{Tally}
-
--- what has the fork in it of a file that is known so; None where the whole file is taken for a fork
-abbrev pub holder_as : Option Container → Bool → Option Holder
-holder_as (Some Raw) is_text = None
-holder_as (Some container) is_text = Some (holder.Container container)
-holder_as None true = Some holder.BinHex
-holder_as None false = None
-
-abbrev pub holder_of : List ℕ → Option Holder
-holder_of file = holder_as (container_of file) (is_bin_hex file)
-
--- what such a file is called
-abbrev pub holder_text : Holder → List ℕ
-holder_text (holder.Container container) = container_text container
-holder_text holder.BinHex = codes "a BinHex file"
 
 -- bytes of a fork in which no type is found
 abbrev pub is_run : Item → Bool
@@ -71,19 +51,15 @@ has_parts other = true
 abbrev pub is_of_fork : Damage → Bool
 is_of_fork damage = has_parts (refusal_of damage.fault) || is_readable damage.tally
 
--- The damage is that of the fork in a file: a fault of it that is the first, what has the fork in it, and how much of
+-- The damage is that of the fork in a file: a fault of it that is the first, what the file is known as, and how much of
 -- it can be read.
 pub record IsDamageOf (file fork : List ℕ) (damage : Damage) : Type 0 where
   pub found : IsForkIn file fork
   pub is : IsFault fork damage.fault
   pub refuses : RefusesWithin format_limits fork (refusal_of damage.fault)
-  pub holder : damage.holder ≡ holder_of file
+  pub kind : damage.kind ≡ kind_of file
   pub tally : damage.tally ≡ tally_of fork
 
 -- a fork is damaged that stands for no table; one without bytes is that of a file without resources
 abbrev pub IsDamaged : List ℕ → Type 0
 IsDamaged fork = (fork ≢ []) × (¬ IsForkWithin format_limits fork)
-
--- the file is known to have a fork in it, whatever that fork is
-abbrev pub is_known : List ℕ → Bool
-is_known file = is_some (container_of file) || is_some (holder_of file)

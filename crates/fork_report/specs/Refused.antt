@@ -1,23 +1,28 @@
 -- Why nothing is reported of a file.
-use Rattle.std.specs.Prelude.{◌≡◌, ◌≢◌, ℕ, ◌⊎◌, true, false, List, [], codes, None, Some, ⊤}
-use Rattle.std.specs.Option.{option_map_or}
+use Rattle.std.specs.Prelude.{◌≡◌, ◌≢◌, ℕ, true, false, List, [], ⊤}
 use Rattle.fork_bytes.specs.declared.fault.ForkFault.{ForkFault}
 use Rattle.fork_bytes.specs.declared.fault.ForkFault.TheVariants as fork_fault
 use Rattle.fork_bytes.specs.Fork.{RefusesWithin, format_limits}
-use Rattle.mac_files.specs.Archives.{archive_of}
-use Rattle.mac_files.specs.Containers.{container_of}
+use Rattle.mac_files.specs.declared.kind.FileKind.{FileKind}
+use Rattle.mac_files.specs.declared.kind.FileKind.TheVariants.{Archive as Holds, BinHex, Container as In, Unknown}
+use Rattle.mac_files.specs.declared.old_file.FileFault.TheVariants.{HostFull}
+use Rattle.mac_files.specs.Kinds.{kind_of, kind_text}
 use Rattle.fork_answer.specs.declared.answer.Failure.{Failure}
 use Rattle.fork_answer.specs.declared.answer.Failure.TheVariants as failure
 use Rattle.fork_answer.specs.declared.source.NoFork.TheVariants as no_fork
-use Rattle.fork_answer.specs.Source.{IsForkIn, IsNoForkIn, container_text}
+use Rattle.fork_answer.specs.Source.{IsForkIn, IsNoForkIn}
 use Rattle.fork_report.specs.declared.damage.Damage.{Damage}
 use Rattle.fork_report.specs.declared.refusal.Refusal.{Refusal}
 use Rattle.fork_report.specs.declared.refusal.Refusal.TheVariants as refusal
-use Rattle.fork_report.specs.Damage.{IsDamageOf, is_known, is_of_fork, is_readable}
+use Rattle.fork_report.specs.Damage.{IsDamageOf, is_of_fork, is_readable}
 
--- the file is taken for one with a fork in it: it is known so, or it is no archive, and its bytes are those of a fork
-abbrev pub IsTakenForFork : List ℕ → Damage → Type 0
-IsTakenForFork file damage = (is_known file ≡ true) ⊎ ((archive_of file ≡ None) × (is_of_fork damage ≡ true))
+-- a file of this kind is taken for one with a fork in it: it is known so, or it is no archive, and its bytes are those
+-- of a fork
+abbrev pub IsTakenForFork : FileKind → Damage → Type 0
+IsTakenForFork (In container) damage = ⊤
+IsTakenForFork BinHex damage = ⊤
+IsTakenForFork (Holds archive) damage = ⊥
+IsTakenForFork Unknown damage = is_of_fork damage ≡ true
 
 -- what is reported of a file whose fork is refused: the damage, that it is an archive, or that nothing is known of it;
 -- where the host has no memory for that, the fault alone
@@ -25,17 +30,17 @@ abbrev pub IsToldOfFork : List ℕ → ForkFault → Refusal → Type 0
 IsToldOfFork file fault (refusal.Show (failure.Fork told)) = told ≡ fault
 IsToldOfFork file fault (refusal.Show failure.HostFull) = ⊤
 IsToldOfFork file fault (refusal.Damaged told readable) =
-    (fork : List ℕ) × (damage : Damage) × IsDamageOf file fork damage × IsTakenForFork file damage × (readable ≡ is_readable damage.tally)
-IsToldOfFork file fault (refusal.Archive archive) = (is_known file ≡ false) × (archive_of file ≡ Some archive)
+    (fork : List ℕ) × (damage : Damage) × IsDamageOf file fork damage × IsTakenForFork (kind_of file) damage × (readable ≡ is_readable damage.tally)
+IsToldOfFork file fault (refusal.Archive archive) = kind_of file ≡ Holds archive
 IsToldOfFork file fault (refusal.Unknown told) =
-    (is_known file ≡ false) × (archive_of file ≡ None) × ((fork : List ℕ) × (damage : Damage) × IsDamageOf file fork damage × (is_of_fork damage ≡ false))
+    (kind_of file ≡ Unknown) × ((fork : List ℕ) × (damage : Damage) × IsDamageOf file fork damage × (is_of_fork damage ≡ false))
 IsToldOfFork file fault other = ⊥
 
 -- what is reported of a file that isn't shown because of this
 abbrev pub IsToldOf : List ℕ → Failure → Refusal → Type 0
-IsToldOf file (failure.NoFork no_fork.HostFull) told = told ≡ refusal.Show failure.HostFull
+IsToldOf file (failure.NoFork (no_fork.File HostFull)) told = told ≡ refusal.Show failure.HostFull
 IsToldOf file (failure.NoFork fault) (refusal.Container container told) =
-    (container.now ≡ option_map_or container_text (container_of file) (codes "a BinHex file")) × (told ≡ fault)
+    (container.now ≡ kind_text (kind_of file)) × (told ≡ fault)
 IsToldOf file (failure.NoFork fault) other = ⊥
 IsToldOf file (failure.Fork fork_fault.HostFull) told = told ≡ refusal.Show failure.HostFull
 IsToldOf file (failure.Fork fault) told = IsToldOfFork file fault told

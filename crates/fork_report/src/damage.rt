@@ -1,29 +1,21 @@
 //! What is reported of a damaged fork.
 
-ghost use Rattle.std.specs.Prelude.{◌≡◌, ◌≢◌, ◌||◌, ℕ, List, [], ◌∷◌, filter_map, length, IfNone, IfSome, Some, is_some};
+ghost use Rattle.std.specs.Prelude.{◌≡◌, ◌≢◌, ◌||◌, ℕ, List, [], ◌∷◌, filter_map, length, IfNone, IfSome, Some};
+ghost use Rattle.mac_files.specs.Kinds.{kind_of};
 ghost use Rattle.fork_bytes.specs.Fork.{IsForkWithin, format_limits};
 ghost use Rattle.fork_answer.specs.Salvaged.{found_in};
 ghost use Rattle.fork_answer.specs.Source.{IsForkIn};
-ghost use Rattle.fork_report.specs.Damage.{IsDamageOf, holder_of, holder_text, is_more, is_of_fork, is_readable, is_run, tally_of};
+ghost use Rattle.fork_report.specs.Damage.{IsDamageOf, is_more, is_of_fork, is_readable, is_run, tally_of};
 
-use fork_answer::{name_of_container, resource_fork};
+use fork_answer::resource_fork;
 use fork_bytes::fault::{Condition, ForkFault};
 use fork_salvage::{Fault, Item, Salvage, first_fault};
-use mac_files::bin_hex::is_bin_hex;
-use mac_files::container::Container;
-use mac_files::container_of;
+use mac_files::kind::FileKind;
 use std::alloc::Global;
 use std::fmt;
 
 /// How many resources of a damaged fork are counted at most. No fork has so many that was whole once.
 pub const MOST_FOUND: usize = 1_048_576;
-
-/// What has a fork in it.
-#[derive(Clone, Copy)]
-pub enum Holder {
-    Container(Container),
-    BinHex,
-}
 
 /// How many resources of a damaged fork can be read, and how many are found in it.
 #[derive(Clone, Copy)]
@@ -38,8 +30,8 @@ pub struct Tally {
 #[derive(Clone, Copy)]
 pub struct Damage {
     fault: Fault,
-    /// What has the fork in it, unless it is the whole file.
-    holder: Option<Holder>,
+    /// What the file is known as.
+    pub kind: FileKind,
     /// None where no resource is found, or too many to be counted.
     tally: Option<Tally>,
 }
@@ -65,36 +57,12 @@ impl fmt::Display for Tally {
     }
 }
 
-impl Holder {
-    /// What has the fork of this file in it. None where the whole file is taken for a fork.
-    pub fn of_file(file: &[u8]) -> Option<Holder>
-        ensures { result ≡ holder_of file.now }
-    {
-        match container_of(file) {
-            Some(Container::Raw) => None,
-            Some(container) => Some(Holder::Container(container)),
-            None if is_bin_hex(file) => Some(Holder::BinHex),
-            None => None,
-        }
-    }
-
-    /// What such a file is called.
-    pub fn name(self) -> &'static str
-        ensures { result.now ≡ holder_text self }
-    {
-        match self {
-            Holder::Container(container) => name_of_container(container),
-            Holder::BinHex => "a BinHex file",
-        }
-    }
-}
-
 impl Damage {
     /// That of the fork in a file. None where there is no such fork or it has no fault, or where the host has no memory
     /// for that of a BinHex text.
     pub fn of_file(alloc: Global, file: &[u8]) -> Option<Damage>
         ensures damage { IfSome result (λ damage. (fork : List ℕ) × IsDamageOf file.now fork damage) }
-        ensures none { IfNone result (holder_of file.now ≢ Some Holder.BinHex → (fork : List ℕ) → IsForkIn file.now fork → IsForkWithin format_limits fork) }
+        ensures none { IfNone result (kind_of file.now ≢ FileKind.BinHex → (fork : List ℕ) → IsForkIn file.now fork → IsForkWithin format_limits fork) }
     {
         let Ok(found) = resource_fork(alloc, file) else {
             return None;
@@ -102,16 +70,9 @@ impl Damage {
         let fork = found.fork();
         Some(Damage {
             fault: first_fault(alloc, fork)?,
-            holder: Holder::of_file(file),
+            kind: found.kind(),
             tally: tally_of(fork),
         })
-    }
-
-    /// Whether the fork is only a part of its file.
-    pub fn is_in_container(&self) -> bool
-        ensures { result ≡ is_some self.now.holder }
-    {
-        self.holder.is_some()
     }
 
     /// Whether the bytes are those of a fork in spite of it: its parts lie within it, or some resource can be read.
@@ -137,8 +98,8 @@ impl fmt::Display for Damage {
     fn fmt<W: fmt::Write>(&self, f: &mut fmt::Formatter<W>) -> fmt::Result {
         let fault = self.fault;
         write!(f, "{fault}")?;
-        if let Some(holder) = self.holder {
-            let name = holder.name();
+        if !self.kind.is_alone() {
+            let name = self.kind.name();
             write!(f, "\n  (places are those in the resource fork of {name})")?;
         }
         match self.tally {

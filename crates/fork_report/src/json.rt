@@ -1,33 +1,25 @@
 //! Lines of JSON, one for each file.
 
-ghost use Rattle.std.specs.Prelude.{◌≡◌, IfErr, IfOk, None, Some, string_bytes, true};
-ghost use Rattle.mac_files.specs.BinHex.{is_bin_hex};
-ghost use Rattle.mac_files.specs.Containers.{container_of};
+ghost use Rattle.std.specs.Prelude.{◌≡◌, IfErr, IfOk, string_bytes};
 ghost use Rattle.fork_report.specs.Json.{line_of, refused_data};
 ghost use Rattle.fork_report.specs.Refused.{IsCause, IsForkCause};
 ghost use Rattle.fork_report.specs.Reported.{HasTable};
 
-use crate::damage::Holder;
-use crate::info::{file_of_text, finder_of};
+use crate::info::opened;
 use crate::json_object::{Object, place_value};
 use crate::json_row::{Bytes, full_rows_value, rows_value};
 use crate::json_text::{roman_value, text_value};
 use fork_answer::warning::Warning;
-use fork_answer::{Failure, NoFork, name_of_container, read_table, resource_fork};
+use fork_answer::{Failure, read_table, resource_fork};
 use fork_list::HasSize;
 use fork_salvage::Fault;
 use mac_base::resource::{ResType, Resource};
-use mac_files::bin_hex::is_bin_hex;
+use mac_files::OldFile;
 use mac_files::container::Container;
 use mac_files::contents::FinderInfo;
-use mac_files::{container_of, read_contents};
+use mac_files::kind::FileKind;
 use serde_json::Value;
 use std::alloc::{AllocError, Global};
-
-/// What a file is kept as.
-fn container_name(bytes: &[u8]) -> &'static str {
-    Holder::of_file(bytes).map_or("a resource fork", Holder::name)
-}
 
 /// The line of a file that isn't shown, and why.
 pub fn refused_line(alloc: Global, file: &str, status: u8, told: &str) -> Result<String, AllocError>
@@ -63,7 +55,7 @@ pub fn list_line(
         Bytes::Hidden => rows_value(alloc, kinds, rows),
         Bytes::Base64 => full_rows_value(alloc, kinds, rows),
     };
-    Ok(resources_line(alloc, file, container_name(bytes), values)?)
+    Ok(resources_line(alloc, file, found.kind(), values)?)
 }
 
 /// The line of these resources of a file that is a resource fork, those of these types or all where none are named.
@@ -74,18 +66,18 @@ pub fn fork_line<D: HasSize>(
     rows: &[Resource<D>],
 ) -> Result<String, AllocError> {
     let values = rows_value(alloc, kinds, rows);
-    resources_line(alloc, file, name_of_container(Container::Raw), values)
+    resources_line(alloc, file, FileKind::Container(Container::Raw), values)
 }
 
 /// The line of resources of a file that is kept so.
 fn resources_line(
     alloc: Global,
     file: &str,
-    container: &str,
+    kind: FileKind,
     resources: Result<Value, AllocError>,
 ) -> Result<String, AllocError> {
     Object::of_file(alloc, file)
-        .with("container", text_value(alloc, container))
+        .with("container", text_value(alloc, kind.name()))
         .with("resources", resources)
         .line()
 }
@@ -140,12 +132,12 @@ fn warnings_value(alloc: Global, warnings: &[Warning]) -> Result<Value, AllocErr
 pub fn check_line(
     alloc: Global,
     file: &str,
-    bytes: &[u8],
+    kind: FileKind,
     faults: &[Fault],
     warnings: &[Warning],
 ) -> Result<String, AllocError> {
     Object::of_file(alloc, file)
-        .with("container", text_value(alloc, container_name(bytes)))
+        .with("container", text_value(alloc, kind.name()))
         .with("faults", faults_value(alloc, faults))
         .with("warnings", warnings_value(alloc, warnings))
         .line()
@@ -173,63 +165,29 @@ fn with_fork(alloc: Global, object: Object, fork: &[u8]) -> Result<Object, Failu
     )
 }
 
-/// With what a container says of a file.
-fn with_contents(
-    alloc: Global,
-    object: Object,
-    container: Container,
-    bytes: &[u8],
-) -> Result<Object, Failure>
-    requires { container_of bytes.now ≡ Some container }
-    ensures { IfErr result (IsCause bytes.now) }
-{
-    let contents = read_contents(container, bytes).map_err(|fault| {
-        Failure::NoFork(NoFork::Container(fault))
-    })?;
-    let name = match contents.name {
-        Some(part) => part.bytes(bytes),
-        None => &[],
-    };
-    let object = match contents.finder {
-        Some(finder) => with_finder(alloc, object, name, finder),
+/// With what is said of a file, unless it is only taken for a resource fork.
+fn with_told(alloc: Global, object: Object, found: &OldFile<'_>) -> Object {
+    if !found.kind().is_known() {
+        return object;
+    }
+    let view = found.view();
+    let object = match view.finder {
+        Some(finder) => with_finder(alloc, object, view.name, finder),
         None => object,
     };
-    let data = contents.data_fork.map_or(0, |part| part.length);
-    let fork = match contents.resource_fork {
-        Some(part) => part.bytes(bytes),
-        None => &[],
-    };
-    with_fork(alloc, object.with("dataFork", Ok(Value::from(data))), fork)
-}
-
-/// With what a BinHex text says of a file.
-fn with_text(alloc: Global, object: Object, text: &[u8]) -> Result<Object, Failure>
-    requires none { container_of text.now ≡ None }
-    requires text { is_bin_hex text.now ≡ true }
-    ensures { IfErr result (IsCause text.now) }
-{
-    let read = file_of_text(alloc, text).map_err(Failure::NoFork)?;
-    let object = with_finder(alloc, object, read.name(), finder_of(&read));
-    let data = read.data_fork().len();
-    with_fork(
-        alloc,
-        object.with("dataFork", Ok(Value::from(data))),
-        read.resource_fork(),
-    )
+    object.with("dataFork", Ok(Value::from(view.data_fork.len())))
 }
 
 /// The line of what a file is.
 pub fn info_line(alloc: Global, file: &str, bytes: &[u8]) -> Result<String, Failure>
     ensures { IfErr result (IsCause bytes.now) }
 {
+    let found = opened(alloc, bytes)?;
     let object = Object::of_file(alloc, file).with(
         "container",
-        text_value(alloc, container_name(bytes)),
+        text_value(alloc, found.kind().name()),
     );
-    let object = match container_of(bytes) {
-        Some(container) => with_contents(alloc, object, container, bytes),
-        None if is_bin_hex(bytes) => with_text(alloc, object, bytes),
-        None => with_fork(alloc, object, bytes),
-    };
-    Ok(object?.line()?)
+    let object = with_told(alloc, object, &found);
+    let object = with_fork(alloc, object, found.fork())?;
+    Ok(object.line()?)
 }

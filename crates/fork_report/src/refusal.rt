@@ -4,11 +4,13 @@ ghost use Rattle.std.specs.Prelude.{◌≡◌};
 ghost use Rattle.fork_report.specs.Damage.{is_readable};
 ghost use Rattle.fork_report.specs.Refused.{IsToldOf, IsToldOfFork};
 
-use crate::damage::{Damage, Holder};
-use fork_answer::{Failure, NoFork, name_of_container};
+use crate::damage::Damage;
+use fork_answer::{Failure, NoFork};
 use fork_bytes::fault::ForkFault;
 use mac_files::archive::Archive;
-use mac_files::{archive_of, container_of};
+use mac_files::kind::FileKind;
+use mac_files::kind_of;
+use mac_files::old_file::FileFault;
 use std::alloc::Global;
 use thiserror::Error;
 
@@ -61,11 +63,13 @@ impl Refusal {
         ensures { IsToldOf file.now (Failure.NoFork fault) result }
     {
         match fault {
-            NoFork::HostFull => Refusal::Show(Failure::HostFull),
-            fault => Refusal::Container {
-                container: container_of(file).map_or(Holder::BinHex.name(), name_of_container),
-                fault,
-            },
+            NoFork::File(FileFault::HostFull) => Refusal::Show(Failure::HostFull),
+            NoFork::File(FileFault::Container(_) | FileFault::Text(_)) | NoFork::Absent => {
+                Refusal::Container {
+                    container: kind_of(file).name(),
+                    fault,
+                }
+            }
         }
     }
 
@@ -89,13 +93,11 @@ impl Refusal {
         let Ok(told) = format!(in alloc; "{damage}") else {
             return Refusal::Show(Failure::HostFull);
         };
-        if damage.is_in_container() || container_of(file).is_some() {
-            return Refusal::damaged(told, damage);
-        }
-        match archive_of(file) {
-            Some(archive) => Refusal::Archive(archive),
-            None if damage.is_of_fork() => Refusal::damaged(told, damage),
-            None => Refusal::Unknown(told),
+        match damage.kind {
+            FileKind::Container(_) | FileKind::BinHex => Refusal::damaged(told, damage),
+            FileKind::Archive(archive) => Refusal::Archive(archive),
+            FileKind::Unknown if damage.is_of_fork() => Refusal::damaged(told, damage),
+            FileKind::Unknown => Refusal::Unknown(told),
         }
     }
 

@@ -2,7 +2,8 @@
 
 ghost use Rattle.std.specs.Prelude.{◌≡◌, ◌≢◌, ◌↔◌, ℕ, List, [], IfErr, IfOk, IsTrue, false, string_bytes};
 ghost use Rattle.fork_answer.specs.Lines.{salvage_listing};
-ghost use Rattle.fork_answer.specs.Source.{IsForkIn, fork_of};
+ghost use Rattle.mac_files.specs.OldFiles.{fork_of};
+ghost use Rattle.fork_answer.specs.Source.{IsForkIn};
 ghost use Rattle.fork_report.specs.Damage.{IsDamaged, is_readable, tally_of};
 ghost use Rattle.fork_report.specs.Refused.{IsRefused};
 ghost use Rattle.fork_report.specs.Reported.{HasTable, IsNotSalvaged, Salvages, Tells, TellsLeft};
@@ -14,11 +15,13 @@ use crate::json_row::Bytes;
 use crate::refusal::Refusal;
 use crate::request::{Form, Report};
 use fork_answer::warning::{Warning, warnings};
-use fork_answer::{Failure, Found, mended_fork, resource_fork, salvage_listing};
+use fork_answer::{Failure, mended_fork, resource_fork, salvage_listing};
 use fork_bytes::fault::WriteFault;
 use fork_list::letters::Letters;
 use fork_salvage::{Fault, all_faults, first_fault};
 use mac_base::resource::ResType;
+use mac_files::OldFile;
+use mac_files::kind::FileKind;
 use std::alloc::{AllocError, Global};
 
 /// What is reported of a file: a text, and whether its fork is damaged.
@@ -84,8 +87,8 @@ fn info(alloc: Global, form: Form, name: &str, bytes: &[u8]) -> Result<Told, Ref
     }
 }
 
-/// The fork in a file, or why there is none.
-fn fork_in<'a>(alloc: Global, bytes: &'a [u8]) -> Result<Found<'a>, Refusal>
+/// The file that bytes hold, or why it has no resource fork.
+fn fork_in<'a>(alloc: Global, bytes: &'a [u8]) -> Result<OldFile<'a>, Refusal>
     ensures fork { IfOk result (λ found. IsForkIn bytes.now (fork_of found)) }
     ensures refused { IfErr result (IsRefused bytes.now) }
 {
@@ -101,7 +104,9 @@ fn check(alloc: Global, form: Form, name: &str, bytes: &[u8]) -> Result<Told, Re
     ensures refused { IfErr result (IsRefused bytes.now) }
 {
     let found = fork_in(alloc, bytes)?;
-    check_fork(alloc, form, name, bytes, found.fork()).map_err(|_| Refusal::Show(Failure::HostFull))
+    check_fork(alloc, form, name, found.kind(), found.fork()).map_err(|_| Refusal::Show(
+        Failure::HostFull,
+    ))
 }
 
 /// All faults of a fork. One without bytes has none.
@@ -120,7 +125,7 @@ fn check_fork(
     alloc: Global,
     form: Form,
     name: &str,
-    bytes: &[u8],
+    kind: FileKind,
     fork: &[u8],
 ) -> Result<Told, AllocError>
     ensures { IfOk result (λ told. IsTrue told.is_damaged ↔ IsDamaged fork.now) }
@@ -129,7 +134,7 @@ fn check_fork(
     let warnings = warnings(alloc, fork)?;
     let text = match form {
         Form::Text => check_text(alloc, faults.as_slice(), warnings.as_slice())?,
-        Form::Json => check_line(alloc, name, bytes, faults.as_slice(), warnings.as_slice())?,
+        Form::Json => check_line(alloc, name, kind, faults.as_slice(), warnings.as_slice())?,
     };
     Ok(Told {
         text,

@@ -1,13 +1,11 @@
 //! What `resources.json` says: all of a fork that isn't in the files of its resources.
 
 use bitflags::Flags;
-use fork_answer::name_of_container;
 use fork_bytes::table::{Row, Table};
 use fork_folder::files::File;
 use fork_list::{hexadecimal_digit, text_of};
-use mac_files::bin_hex::{is_bin_hex, read_bin_hex};
+use mac_files::OldFile;
 use mac_files::contents::{Dates, FinderInfo};
-use mac_files::{container_of, read_contents};
 use serde::Serialize;
 use std::alloc::{AllocError, Global};
 
@@ -39,43 +37,22 @@ pub struct Manifest {
     resources: Vec<Resource>,
 }
 
-/// What a container says of a file.
-#[derive(Drop)]
-struct Origin {
-    container: Option<&'static str>,
-    finder: Option<FinderInfo>,
-    dates: Option<Dates>,
-}
-
-/// What the container of a file says of it. That of a fork alone says nothing.
-fn origin_of(alloc: Global, file: &[u8]) -> Origin {
-    if let Some(container) = container_of(file) {
-        if let Ok(contents) = read_contents(container, file) {
-            return Origin {
-                container: Some(name_of_container(container)),
-                finder: contents.finder,
-                dates: contents.dates,
-            };
-        }
-    }
-    let mut origin = Origin {
-        container: None,
-        finder: None,
-        dates: None,
+/// What a file is kept in, and what is said of it. That of a fork alone is nothing.
+fn origin_of(
+    alloc: Global,
+    file: &[u8],
+) -> (Option<&'static str>, Option<FinderInfo>, Option<Dates>) {
+    let Ok(found) = OldFile::open(alloc, file) else {
+        return (None, None, None);
     };
-    if is_bin_hex(file) {
-        if let Ok(read) = read_bin_hex(alloc, file) {
-            let kind = read.kind;
-            let creator = read.creator;
-            origin.container = Some("a BinHex file");
-            origin.finder = Some(FinderInfo {
-                kind,
-                creator,
-                flags: read.flags,
-            });
-        }
-    }
-    origin
+    let view = found.view();
+    let kind = found.kind();
+    let container = if kind.is_known() {
+        Some(kind.name())
+    } else {
+        None
+    };
+    (container, view.finder, view.dates)
 }
 
 /// Bytes in hexadecimal digits.
@@ -125,18 +102,18 @@ pub fn manifest_of(
     table: &Table<'_>,
     files: &[File<'_>],
 ) -> Result<Manifest, AllocError> {
-    let origin = origin_of(alloc, file);
+    let (container, finder, dates) = origin_of(alloc, file);
     let mut resources = Vec::new(alloc);
     for file in files {
         resources.push(resource_of(alloc, file)?)?;
     }
     Ok(Manifest {
-        container: origin.container,
-        kind: four_of(alloc, origin.finder.map(|finder| finder.kind))?,
-        creator: four_of(alloc, origin.finder.map(|finder| finder.creator))?,
-        flags: origin.finder.map(|finder| finder.flags),
-        created: origin.dates.map(|dates| dates.created),
-        modified: origin.dates.map(|dates| dates.modified),
+        container,
+        kind: four_of(alloc, finder.map(|finder| finder.kind))?,
+        creator: four_of(alloc, finder.map(|finder| finder.creator))?,
+        flags: finder.map(|finder| finder.flags),
+        created: dates.map(|dates| dates.created),
+        modified: dates.map(|dates| dates.modified),
         extra: hex_of(alloc, &table.extra)?,
         map_attributes: table.map_attributes,
         resources,

@@ -7,7 +7,7 @@ use Rattle.mac_files.specs.declared.bin_hex.digits.TheConstants.{VALUES}
 use Rattle.std.proofs.lemmas.Bool.{le-ltb, lt-ltb, ne_eqb}
 use Rattle.mac_files.specs.declared.bin_hex.fault.BinHexFault.TheVariants.{NotADigit, NotClosed}
 use Rattle.mac_files.proofs.BinHexLines.{opened}
-use Rattle.mac_files.specs.BinHex.{before, digit_before, digit_of, digits_from, ends, is_line_end}
+use Rattle.mac_files.specs.BinHex.{before, digit_before, digit_of, digits_from, ends, is_skipped}
 
 -- what the table says of a character
 abbrev pub listed : ℕ → Option ℕ
@@ -42,21 +42,21 @@ pub digits_at_colon : (text : List ℕ) (at : ℕ) → at < length text → get_
 unfolding digits_from
 digits_at_colon text at h colon = rw (opened text at h, colon) refl
 
-pub digits_at_line_end : (text : List ℕ) (at : ℕ) → at < length text → (get_or text at 0 ≡ 58 → ⊥) → is_line_end (get_or text at 0) ≡ true
+pub digits_at_skipped : (text : List ℕ) (at : ℕ) → at < length text → (get_or text at 0 ≡ 58 → ⊥) → is_skipped (get_or text at 0) ≡ true
     → digits_from at (drop at text) ≡ digits_from (at + 1) (drop (at + 1) text)
 unfolding digits_from
-digits_at_line_end text at h other line_end = rw (opened text at h, ne_eqb _ _ other, line_end) refl
+digits_at_skipped text at h other skipped = rw (opened text at h, ne_eqb _ _ other, skipped) refl
 
-digits_at_character : (text : List ℕ) (at : ℕ) (digit : Option ℕ) → at < length text → (get_or text at 0 ≡ 58 → ⊥) → is_line_end (get_or text at 0) ≡ false
+digits_at_character : (text : List ℕ) (at : ℕ) (digit : Option ℕ) → at < length text → (get_or text at 0 ≡ 58 → ⊥) → is_skipped (get_or text at 0) ≡ false
     → digit_of (get_or text at 0) ≡ digit → digits_from at (drop at text) ≡ digit_before at (get_or text at 0) digit (digits_from (at + 1) (drop (at + 1) text))
 unfolding digits_from
 digits_at_character text at digit h other inside is = rw (opened text at h, ne_eqb _ _ other, inside, is) refl
 
-pub digits_at_other : (text : List ℕ) (at : ℕ) → at < length text → (get_or text at 0 ≡ 58 → ⊥) → is_line_end (get_or text at 0) ≡ false
+pub digits_at_other : (text : List ℕ) (at : ℕ) → at < length text → (get_or text at 0 ≡ 58 → ⊥) → is_skipped (get_or text at 0) ≡ false
     → digit_of (get_or text at 0) ≡ None → digits_from at (drop at text) ≡ ends (Err (NotADigit at (get_or text at 0)))
 digits_at_other text at = digits_at_character text at None
 
-pub digits_at_digit : (text : List ℕ) (at value : ℕ) → at < length text → (get_or text at 0 ≡ 58 → ⊥) → is_line_end (get_or text at 0) ≡ false
+pub digits_at_digit : (text : List ℕ) (at value : ℕ) → at < length text → (get_or text at 0 ≡ 58 → ⊥) → is_skipped (get_or text at 0) ≡ false
     → digit_of (get_or text at 0) ≡ Some value
     → digits_from at (drop at text) ≡ before (record { value = value; at = at } ∷ []) (digits_from (at + 1) (drop (at + 1) text))
 digits_at_digit text at value = digits_at_character text at (Some value)

@@ -2,7 +2,7 @@
 use Rattle.std.proofs.Common.{◌≡◌, ℕ, ◌+◌, ◌<◌, ◌≤◌, nat_eq, Bool, true, false, ◌&&◌, List, ◌∷◌, ◌-◌, length, take, drop, get_or, drop-cons, None, Some, refl, ap, subst, ◌∙◌, add-one, arith, length-drop}
 use Rattle.std.specs.List.{starts_with}
 use Rattle.std.proofs.lemmas.List.{drop_all, take_all}
-use Rattle.mac_files.specs.BinHex.{is_line_end, line_from}
+use Rattle.mac_files.specs.BinHex.{begins_after, line_from}
 
 -- a character, and those after it
 pub opened : (text : List ℕ) (at : ℕ) → at < length text → drop at text ≡ get_or text at 0 ∷ drop (at + 1) text
@@ -23,12 +23,12 @@ line_here mark text at h marked =
     ap (line_from mark true at) e ∙ line_here_first mark _ _ at (subst (λ xs. starts_with nat_eq xs mark ≡ true) e marked)
 
 line_past_first : (mark cs : List ℕ) (begins : Bool) (c at : ℕ) → (begins && starts_with nat_eq (c ∷ cs) mark) ≡ false
-    → line_from mark begins at (c ∷ cs) ≡ line_from mark (is_line_end c) (at + 1) cs
+    → line_from mark begins at (c ∷ cs) ≡ line_from mark (begins_after begins c) (at + 1) cs
 unfolding line_from
 line_past_first mark cs begins c at h = rw h refl
 
 pub line_past : (mark text : List ℕ) (begins : Bool) (at : ℕ) → at < length text → (begins && starts_with nat_eq (drop at text) mark) ≡ false
-    → line_from mark begins at (drop at text) ≡ line_from mark (is_line_end (get_or text at 0)) (at + 1) (drop (at + 1) text)
+    → line_from mark begins at (drop at text) ≡ line_from mark (begins_after begins (get_or text at 0)) (at + 1) (drop (at + 1) text)
 line_past mark text begins at h other =
     let e = opened text at h in
     ap (line_from mark begins at) e ∙ line_past_first mark _ begins _ at (subst (λ xs. (begins && starts_with nat_eq xs mark) ≡ false) e other)

@@ -20,12 +20,20 @@ use Rattle.mac_files.specs.declared.bin_hex.fault.BinHexFault.TheVariants.{NoTex
 abbrev pub is_line_end : ℕ → Bool
 is_line_end c = (c == 13) || (c == 10)
 
--- the first place at which a line begins with a mark, in characters from an offset on; the flag says whether a line
--- begins there
+-- a tab or a blank
+abbrev pub is_blank : ℕ → Bool
+is_blank c = (c == 9) || (c == 32)
+
+-- only tabs and blanks are on the line after a character, by whether only these were before it
+abbrev pub begins_after : Bool → ℕ → Bool
+begins_after begins c = is_line_end c || (begins && is_blank c)
+
+-- the first place at which a line begins with a mark, after tabs and blanks, in characters from an offset on; the flag
+-- says whether only these are on the line before
 unfoldable pub line_from : List ℕ → Bool → ℕ → List ℕ → Option ℕ
 line_from mark begins at [] = None
 line_from mark begins at (c ∷ cs) =
-    if begins && starts_with nat_eq (c ∷ cs) mark then Some at else line_from mark (is_line_end c) (at + 1) cs
+    if begins && starts_with nat_eq (c ∷ cs) mark then Some at else line_from mark (begins_after begins c) (at + 1) cs
 
 -- the line that each tool writes before the text
 abbrev pub comment_of : List ℕ → Option ℕ
@@ -72,12 +80,16 @@ abbrev pub digit_before : ℕ → ℕ → Option ℕ → Reading → Reading
 digit_before at c None rest = ends (Err (NotADigit at c))
 digit_before at c (Some value) rest = before (record { value = value; at = at } ∷ []) rest
 
--- the digits of the characters from an offset on, up to a colon, without the ends of lines
+-- a character that is skipped: the end of a line, a tab or a blank
+abbrev pub is_skipped : ℕ → Bool
+is_skipped c = is_line_end c || is_blank c
+
+-- the digits of the characters from an offset on, up to a colon, without those that are skipped
 unfoldable pub digits_from : ℕ → List ℕ → Reading
 digits_from at [] = ends (Err (NotClosed at))
 digits_from at (c ∷ cs) =
     if c == 58 then ends (Ok at)
-    else (if is_line_end c then digits_from (at + 1) cs else digit_before at c (digit_of c) (digits_from (at + 1) cs))
+    else (if is_skipped c then digits_from (at + 1) cs else digit_before at c (digit_of c) (digits_from (at + 1) cs))
 
 -- The bytes.
 

@@ -8,4 +8,6 @@ pub mod Archives
 pub mod BinHex
 pub mod BinHexLeft
 pub mod BinHexFiles
+pub mod Kinds
+pub mod OldFiles
 pub mod Laws

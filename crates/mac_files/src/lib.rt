@@ -1,6 +1,6 @@
-//! The containers in which files of old Macintoshes come: AppleSingle, AppleDouble and MacBinary. A file is known by
-//! its bytes (`container_of`), and `read_contents` gives the places of its forks in it, and what the container says of
-//! the file.
+//! The forms in which files of old Macintoshes come: AppleSingle, AppleDouble, MacBinary, BinHex, or a resource fork
+//! alone. A file is known by its bytes (`kind_of`), and `OldFile` is what it is out of any container: its forks with
+//! their places, its name, type, creator, flags, dates and comment.
 #![tactic(auto)]
 
 pub mod apple;
@@ -11,13 +11,17 @@ pub mod container;
 pub mod contents;
 pub mod crc;
 pub mod fault;
+pub mod kind;
 mod laws;
 pub mod mac_binary;
 pub mod number;
+pub mod old_file;
 pub mod part;
 mod read;
 
 pub use archive::archive_of;
 pub use container::{container_of, is_raw};
+pub use kind::kind_of;
 pub use laws::container_laws;
-pub use read::{data_in, fork_in, read_contents};
+pub use old_file::OldFile;
+pub use read::read_contents;

@@ -2,8 +2,7 @@
 
 ghost use Rattle.std.specs.Prelude.{◌≡◌, length, IfOk};
 ghost use Rattle.std.specs.Result.{result_err};
-ghost use Rattle.std.specs.Option.{option_copied};
-ghost use Rattle.mac_files.specs.Containers.{contents_of, data_in, fault_of, fork_in};
+ghost use Rattle.mac_files.specs.Containers.{contents_of, fault_of};
 ghost use Rattle.mac_files.specs.Parts.{AreWithin};
 
 use crate::apple::read_apple;
@@ -44,24 +43,4 @@ pub fn read_contents(container: Container, file: &[u8]) -> Result<Contents, Cont
         Container::AppleSingle | Container::AppleDouble => read_apple(file),
         Container::MacBinary(version) => read_mac_binary(version, file),
     }
-}
-
-/// The bytes of the resource fork in a file that is read as this container, or None if it has none. An error comes
-/// exactly where the container has a fault, and is the first.
-pub fn fork_in(container: Container, file: &[u8]) -> Result<Option<&[u8]>, ContainerFault>
-    ensures fault { result_err result ≡ fault_of container file.now }
-    ensures fork { IfOk result (λ fork. option_copied fork ≡ fork_in container file.now) }
-{
-    let contents = read_contents(container, file)?;
-    Ok(contents.resource_fork.map(|part| part.bytes(file)))
-}
-
-/// The bytes of the data fork in a file that is read as this container, or None if it has none. An error comes exactly
-/// where the container has a fault, and is the first.
-pub fn data_in(container: Container, file: &[u8]) -> Result<Option<&[u8]>, ContainerFault>
-    ensures fault { result_err result ≡ fault_of container file.now }
-    ensures fork { IfOk result (λ fork. option_copied fork ≡ data_in container file.now) }
-{
-    let contents = read_contents(container, file)?;
-    Ok(contents.data_fork.map(|part| part.bytes(file)))
 }

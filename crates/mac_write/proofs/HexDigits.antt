@@ -6,7 +6,7 @@ use Rattle.std.proofs.lemmas.Bool.{eqb-false, eqb-true}
 use Rattle.std.proofs.lemmas.List.FromFn.{get_or-map-range_with_len}
 use Rattle.mac_files.specs.declared.bin_hex.digits.Placed.{Placed}
 use Rattle.mac_files.specs.declared.bin_hex.fault.BinHexFault.{BinHexFault}
-use Rattle.mac_files.specs.BinHex.{Reading, before, digit_of, digits_from, expanded, is_line_end, packed, values_of}
+use Rattle.mac_files.specs.BinHex.{Reading, before, digit_of, digits_from, expanded, is_skipped, packed, values_of}
 use Rattle.mac_files.proofs.BinHexRuns.{runs_literal, runs_plain}
 use Rattle.mac_write.specs.HexText.{digit, digits, escape, escaped, in_lines, sixes}
 use Rattle.mac_write.specs.Bytes.{AreBytes}
@@ -25,7 +25,7 @@ reads_before r p value values is reads =
 -- One digit.
 
 abbrev read_digit : ℕ → Bool × Bool × Option ℕ
-read_digit value = (digit value == 58, is_line_end (digit value), digit_of (digit value))
+read_digit value = (digit value == 58, is_skipped (digit value), digit_of (digit value))
 
 abbrev as_digit : ℕ → Bool × Bool × Option ℕ
 as_digit value = (false, false, Some value)

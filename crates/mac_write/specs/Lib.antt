@@ -3,6 +3,7 @@ pub mod Apple
 pub mod MacBinary
 pub mod Forks
 pub mod Parts
+pub mod OldParts
 pub mod HexText
 pub mod Targets
 pub mod Written

@@ -21,5 +21,5 @@ mod target;
 pub use fork::{text_with_fork, with_fork};
 pub use known::know_file;
 pub use laws::written_laws;
-pub use mac_file::{bin_hex_parts, parts_of};
+pub use mac_file::parts_of;
 pub use target::{Target, write_file};

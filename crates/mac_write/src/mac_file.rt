@@ -1,18 +1,16 @@
 //! What a file is, out of any container.
 
-ghost use Rattle.std.specs.Prelude.{◌≡◌, length, true, IfOk, IfSome};
-ghost use Rattle.std.specs.Result.{result_err};
+ghost use Rattle.std.specs.Prelude.{◌≡◌};
 ghost use Rattle.mac_files.specs.BinHexFiles.{view as bin_hex_view};
-ghost use Rattle.mac_files.specs.Containers.{fault_of};
-ghost use Rattle.mac_files.specs.Parts.{lies_within};
-ghost use Rattle.mac_write.specs.Parts.{bin_hex_parts, date_of, mac_date, parts_of, told_bytes, view};
+ghost use Rattle.mac_files.specs.OldFiles.{kind_by, said_by};
+ghost use Rattle.mac_write.specs.OldParts.{date_by, old_parts};
+ghost use Rattle.mac_write.specs.Parts.{bin_hex_parts, mac_date, view};
 
+use mac_files::OldFile;
 use mac_files::bin_hex::file::BinHexFile;
 use mac_files::container::Container;
 use mac_files::contents::FinderInfo;
-use mac_files::fault::ContainerFault;
-use mac_files::part::Part;
-use mac_files::read_contents;
+use mac_files::kind::FileKind;
 
 /// What a file is, out of any container. What a container doesn't say is empty or zero.
 #[derive(Clone, Copy, Debug)]
@@ -56,54 +54,42 @@ fn mac_date(date: u32) -> u64
     }
 }
 
-/// A date as a container counts it, in seconds from the beginning of 1904.
-fn date_of(container: Container, date: u32) -> u64
-    ensures { result ≡ date_of container date }
+/// A date as a file of this kind counts it, in seconds from the beginning of 1904.
+fn date_by(kind: FileKind, date: u32) -> u64
+    ensures { result ≡ date_by kind date }
 {
-    match container {
-        Container::AppleSingle | Container::AppleDouble => mac_date(date),
-        Container::Raw | Container::MacBinary(_) => date as u64,
+    match kind {
+        FileKind::Container(Container::AppleSingle | Container::AppleDouble) => mac_date(date),
+        FileKind::Container(Container::Raw | Container::MacBinary(_))
+        | FileKind::BinHex
+        | FileKind::Archive(_)
+        | FileKind::Unknown => date as u64,
     }
 }
 
-/// The bytes of a part, if there is one.
-fn told_bytes(part: Option<Part>, file: &[u8]) -> &[u8]
-    requires { IfSome part (λ part. lies_within (length file.now) part ≡ true) }
-    ensures { result.now ≡ told_bytes part file.now }
+/// What an opened file is.
+pub fn parts_of<'a>(file: &'a OldFile<'_>) -> MacFile<'a>
+    ensures { view result ≡ old_parts (kind_by file.now) (said_by file.now) }
 {
-    match part {
-        Some(part) => part.bytes(file),
-        None => &file[..0],
-    }
-}
-
-/// What a file is that is read as this container. An error comes exactly where the container has a fault, and is the
-/// first.
-pub fn parts_of(container: Container, file: &[u8]) -> Result<MacFile<'_>, ContainerFault>
-    ensures fault { result_err result ≡ fault_of container file.now }
-    ensures parts { IfOk result (λ parts. view parts ≡ parts_of container file.now) }
-{
-    let contents = read_contents(container, file)?;
-    let (created, modified) = match contents.dates {
-        Some(dates) => (
-            date_of(container, dates.created),
-            date_of(container, dates.modified),
-        ),
+    let told = file.view();
+    let kind = file.kind();
+    let (created, modified) = match told.dates {
+        Some(dates) => (date_by(kind, dates.created), date_by(kind, dates.modified)),
         None => (0, 0),
     };
-    Ok(MacFile {
-        name: told_bytes(contents.name, file),
-        finder: contents.finder.unwrap_or(NO_FINDER),
+    MacFile {
+        name: told.name,
+        finder: told.finder.unwrap_or(NO_FINDER),
         created,
         modified,
-        comment: told_bytes(contents.comment, file),
-        data_fork: told_bytes(contents.data_fork, file),
-        resource_fork: told_bytes(contents.resource_fork, file),
-    })
+        comment: told.comment,
+        data_fork: told.data_fork,
+        resource_fork: file.fork(),
+    }
 }
 
 /// What the file of a BinHex text is, which gives no dates and no comment.
-pub fn bin_hex_parts(file: &BinHexFile) -> MacFile<'_>
+pub(crate) fn bin_hex_parts(file: &BinHexFile) -> MacFile<'_>
     ensures { view result ≡ bin_hex_parts (bin_hex_view file.now) }
 {
     MacFile {

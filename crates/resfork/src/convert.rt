@@ -10,16 +10,16 @@ use crate::message::{DONE, Problem};
 use crate::order::{Order, order_of};
 use crate::save::{OUTPUT, Ready, put_two, save_to};
 use crate::{INPUT, fork_found, read, read_other, table_found};
-use fork_answer::Failure;
-use fork_edit::convert::{Loss, NotConverted, Rewritten, Transfer, converted, file_of, holds_data};
+use fork_answer::{Failure, NoFork};
+use fork_edit::convert::{Loss, NotConverted, Rewritten, Transfer, converted, holds_data};
 use fork_list::byte_of;
 use fork_report::Refusal;
 use host_paths::{HostCalls, Identity};
-use mac_files::bin_hex::is_bin_hex;
 use mac_files::container::{Container, Version};
-use mac_files::container_of;
-use mac_write::Target as Kind;
+use mac_files::kind::FileKind;
+use mac_files::{OldFile, kind_of};
 use mac_write::mac_file::MacFile;
+use mac_write::{Target as Kind, parts_of};
 use path_text::FileName;
 use std::alloc::{AllocError, Global};
 
@@ -36,10 +36,9 @@ enum Place {
 
 /// Where the data fork of bytes is.
 fn place_of(bytes: &[u8]) -> Place {
-    match container_of(bytes) {
-        Some(Container::AppleDouble) => Place::Beside,
-        Some(Container::Raw) => Place::Nowhere,
-        None if !is_bin_hex(bytes) => Place::Nowhere,
+    match kind_of(bytes) {
+        FileKind::Container(Container::AppleDouble) => Place::Beside,
+        kind if kind.is_alone() => Place::Nowhere,
         _ => Place::Inside,
     }
 }
@@ -90,12 +89,8 @@ fn lost_words(alloc: Global, lost: &[Loss]) -> Result<String, AllocError> {
 
 /// Checks that bytes in no container that is known for sure are a resource fork.
 fn check_fork(host: &Host<'_>, bytes: &[u8]) -> Result<(), Problem> {
-    let is_sure = match container_of(bytes) {
-        Some(Container::MacBinary(Version::I)) => false,
-        Some(_) => true,
-        None => is_bin_hex(bytes),
-    };
-    if !is_sure {
+    let kind = kind_of(bytes);
+    if !kind.is_known() || kind == FileKind::Container(Container::MacBinary(Version::I)) {
         let found = fork_found(host, bytes)?;
         table_found(host, &found, bytes)?;
     }
@@ -202,10 +197,10 @@ pub fn convert(host: &Host<'_>, asked: &Conversion<'_>) -> Result<u8, Problem>
     let bytes = read(host, asked.target.file)?;
     check_fork(host, &bytes)?;
     let alloc = host.alloc();
-    let source = file_of(alloc, &bytes).map_err(|fault| {
-        Refusal::of_failure(alloc, Failure::NoFork(fault), &bytes)
+    let opened = OldFile::open(alloc, &bytes).map_err(|fault| {
+        Refusal::of_failure(alloc, Failure::NoFork(NoFork::File(fault)), &bytes)
     })?;
-    convert_file(host, asked, order, &bytes, source.file())
+    convert_file(host, asked, order, &bytes, parts_of(&opened))
 }
 
 /// Writes a file that was found in these bytes in another container.

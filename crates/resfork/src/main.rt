@@ -19,7 +19,7 @@ mod work;
 
 use fork_answer::answer::answer;
 use fork_answer::request::Request;
-use fork_answer::{Failure, Found, read_table, resource_fork};
+use fork_answer::{Failure, read_table, resource_fork};
 use fork_bytes::table::Table;
 use fork_disk::{Record, Unknown};
 use fork_report::{
@@ -34,6 +34,7 @@ use fork_words::{INPUT, work as asked_change};
 use host::Host;
 use input::{NotRead, read_file, read_within};
 use lines::in_lines;
+use mac_files::OldFile;
 use message::{BAD_WORDS, CANT_GO_ON, DONE, NO_FORK, Problem, tell_bad_words, tell_problem};
 use parts::{answer_by_parts, list_by_parts};
 use path_text::FileName;
@@ -261,8 +262,8 @@ fn save_salvaged(host: &Host<'_>, file: &str, bytes: &[u8], output: &str) -> Res
     Ok(())
 }
 
-/// The resource fork in a file.
-fn fork_found<'a>(host: &Host<'_>, bytes: &'a [u8]) -> Result<Found<'a>, Problem> {
+/// The file that bytes hold, which has a resource fork.
+fn fork_found<'a>(host: &Host<'_>, bytes: &'a [u8]) -> Result<OldFile<'a>, Problem> {
     let alloc = host.alloc();
     Ok(resource_fork(alloc, bytes).map_err(|fault| Refusal::of_failure(
         alloc,
@@ -274,7 +275,7 @@ fn fork_found<'a>(host: &Host<'_>, bytes: &'a [u8]) -> Result<Found<'a>, Problem
 /// The table of the resource fork that was found in a file.
 fn table_found<'a>(
     host: &Host<'_>,
-    found: &'a Found<'_>,
+    found: &'a OldFile<'_>,
     bytes: &[u8],
 ) -> Result<Table<'a>, Problem> {
     let alloc = host.alloc();

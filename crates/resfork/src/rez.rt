@@ -16,9 +16,7 @@ use fork_list::Quoted;
 use fork_list::letters::Letters;
 use fork_rez::{derez, rez};
 use mac_base::resource::ResType;
-use mac_files::bin_hex::is_bin_hex;
-use mac_files::container::Container;
-use mac_files::container_of;
+use mac_files::kind_of;
 use path_text::FileName;
 use std::alloc::{AllocError, Global};
 use std::collections::{BTreeMap, BTreeSet};
@@ -65,11 +63,7 @@ pub fn rez_file(host: &Host<'_>, target: &Target<'_>) -> Result<u8, Problem>
 
 /// Whether bytes are those of a file that has more than a resource fork.
 fn is_container(bytes: &[u8]) -> bool {
-    match container_of(bytes) {
-        Some(Container::Raw) => false,
-        Some(_) => true,
-        None => is_bin_hex(bytes),
-    }
+    !kind_of(bytes).is_alone()
 }
 
 /// Refuses to write over a file that has more than a resource fork, or that is too long to be looked at.

@@ -1,11 +1,13 @@
 //! Files that are read.
 
-use crate::bin_hex::texts::{FILLED, HCOPY, MACUTILS, MAIL};
-use mac_files::bin_hex::{is_bin_hex, read_bin_hex};
+use crate::bin_hex::texts::{FILLED, HCOPY, MACUTILS, MAIL, SPACED};
+use mac_files::bin_hex::read_bin_hex;
+use mac_files::kind::FileKind;
+use mac_files::kind_of;
 use std::process::Abort;
 use std::test::Fail;
 
-/// The resource fork of the first three texts: nine zeros and a $90, and the bytes of the examples of RFC 1741.
+/// The resource fork of the first four texts: nine zeros and a $90, and the bytes of the examples of RFC 1741.
 const RESOURCES: &[u8] =
     b"\0\0\0\0\0\0\0\0\0\x90\x11\x22\x22\x22\x22\x22\x22\x33\x11\x22\x90\x33\x44";
 
@@ -14,7 +16,7 @@ const BEFORE: &[u8] = b"abc\x90\x90\x90\x90\x90";
 
 const AFTER: &[u8] = b"\x90\0\x90";
 
-/// The data fork of the first three texts.
+/// The data fork of the first four texts.
 fn data(rt: HostRuntime) -> Result<Vec<u8>, Fail> {
     let mut bytes = BEFORE.to_vec(rt.alloc())?;
     for _ in 0..300 {
@@ -28,8 +30,13 @@ fn data(rt: HostRuntime) -> Result<Vec<u8>, Fail> {
 #[test]
 fn programs(rt: HostRuntime) -> Result<(), Fail> {
     let data = data(rt)?;
-    for (text, flags) in [(MACUTILS, 0x0100), (HCOPY, 0), (MAIL, 0x0100)] {
-        assert!(rt; is_bin_hex(text));
+    for (text, flags) in [
+        (MACUTILS, 0x0100),
+        (HCOPY, 0),
+        (MAIL, 0x0100),
+        (SPACED, 0x0100),
+    ] {
+        assert_eq!(rt; kind_of(text), FileKind::BinHex);
         let file = read_bin_hex(rt.alloc(), text)?;
         assert_eq!(rt; file.name(), b"Test".as_slice());
         assert_eq!(rt; file.kind, *b"TEXT");

@@ -5,7 +5,7 @@ ghost use Rattle.mac_files.specs.BinHex.{digit_of};
 ghost use Rattle.mac_files.specs.BinHexLeft.{Takes, digits_left};
 
 use crate::bin_hex::fault::BinHexFault;
-use crate::bin_hex::find::ends_line;
+use crate::bin_hex::find::is_skipped;
 
 /// Something that was read, and the offset in the text of the character that completes it.
 #[derive(Clone, Copy, Debug)]
@@ -59,7 +59,7 @@ impl Digits<'_> {
             }
             let at = self.at;
             self.at += 1;
-            if !ends_line(found) {
+            if !is_skipped(found) {
                 let Some(value) = digit_value(found) else {
                     return Err(BinHexFault::NotADigit { at, found });
                 };

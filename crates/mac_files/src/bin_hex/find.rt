@@ -1,7 +1,7 @@
 //! Where a BinHex text begins.
 
 ghost use Rattle.std.specs.Prelude.{◌≡◌, ◌<◌, ◌≤◌, ◌+◌, length, drop, true, IfSome};
-ghost use Rattle.mac_files.specs.BinHex.{is_bin_hex, is_line_end, line_from, colon_of};
+ghost use Rattle.mac_files.specs.BinHex.{begins_after, is_bin_hex, is_blank, is_line_end, is_skipped, line_from, colon_of};
 
 use crate::container::has_fork_parts;
 
@@ -9,13 +9,34 @@ use crate::container::has_fork_parts;
 const COMMENT: &[u8] = b"(This file must be converted";
 
 /// Whether a character ends a line.
-pub fn ends_line(character: u8) -> bool
+fn ends_line(character: u8) -> bool
     ensures { result ≡ is_line_end character }
 {
     character == b'\r' || character == b'\n'
 }
 
-/// The first place, from the beginning of a line on, at which a line begins with a mark.
+/// Whether a character is a tab or a blank, which mail leaves at the ends of lines and before the text.
+fn is_blank(character: u8) -> bool
+    ensures { result ≡ is_blank character }
+{
+    character == b'\t' || character == b' '
+}
+
+/// Whether a character is skipped between the digits.
+pub fn is_skipped(character: u8) -> bool
+    ensures { result ≡ is_skipped character }
+{
+    ends_line(character) || is_blank(character)
+}
+
+/// Whether only tabs and blanks are on the line after a character, by whether only these were before it.
+fn begins_after(begins: bool, character: u8) -> bool
+    ensures { result ≡ begins_after begins character }
+{
+    ends_line(character) || (begins && is_blank(character))
+}
+
+/// The first place, from the beginning of a line on, at which a line begins with a mark, after tabs and blanks.
 fn find_line(text: &[u8], from: usize, mark: &[u8]) -> Option<usize>
     requires { from ≤ length text.now }
     ensures place { result ≡ line_from mark.now true from (drop from text.now) }
@@ -26,7 +47,7 @@ fn find_line(text: &[u8], from: usize, mark: &[u8]) -> Option<usize>
         if begins && text[at..].starts_with(mark) {
             return Some(at);
         }
-        begins = ends_line(text[at]);
+        begins = begins_after(begins, text[at]);
     }
     None
 }

@@ -1,6 +1,7 @@
 use Rattle.std.proofs.Common.{ℕ, List, sym, ◌∙◌, subst}
 use Rattle.fork_bytes.specs.Fork.{IsForkWithin, format_limits}
-use Rattle.fork_answer.specs.Source.{IsForkIn, fork_of}
+use Rattle.mac_files.specs.OldFiles.{fork_of}
+use Rattle.fork_answer.specs.Source.{IsForkIn}
 use Rattle.fork_report.proofs.Refusing.{apart, none_if, same_fork}
 use Rattle.fork_report.proofs.damage.Damage.of_file.Goals as goal
 
@@ -21,7 +22,7 @@ returns-clause-damage c = (
     found = subst (λ (f : List ℕ). IsForkIn c.args.file.now f) (sym c.fork-fork.ensures) c.in-Ok.ensures.fork;
     is = c.in_ok-first_fault.ensures.fault;
     refuses = c.in_ok-first_fault.ensures.refuses;
-    holder = c.of_file.ensures;
+    kind = c.kind.ensures ∙ c.in-Ok.ensures.kind;
     tally = c.tally_of.ensures;
   },
 )

@@ -10,7 +10,7 @@ returns-then-starts_with-clause-place c =
 
 pub loop-at-preserved : goal.loop-at-preserved
 loop-at-preserved c =
-    rw c.ends_line-begins.ensures (sym (line_past c.args.mark.now c.args.text.now c.loop-at.begins c.loop-at.at c.loop-at-test.true
+    rw c.begins_after-begins.ensures (sym (line_past c.args.mark.now c.args.text.now c.loop-at.begins c.loop-at.at c.loop-at-test.true
     (elim c.else-begins.branch [
       | else-begins-via-then-begins+else-starts_with w ↦ rw (w.if-begins.true) (marked c.args.mark.now c.args.text.now c.loop-at.at _ (sym w.starts_with.ensures.value ∙ w.if-starts_with.false))
       | else-begins-via-else-begins w ↦ rw w.if-begins.false refl
