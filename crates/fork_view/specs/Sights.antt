@@ -21,13 +21,13 @@ IsShownAs form row true bytes = ((form ≡ None) ⊎ (form ≡ Some Png)) × (pi
 IsShownAs form row false bytes = (form ≢ Some Png) × (form ≡ None → picture_file row ≡ None)
 
 -- why a resource can't be shown in a form, where it is no picture: its text ends too early
-abbrev pub untold : Option ShowAs → Row → Option NotShown
-untold (Some Text) row = if ends_early row then Some unshown.NoText else None
-untold form row = None
+abbrev pub why_untold : Option ShowAs → Row → Option NotShown
+why_untold (Some Text) row = if ends_early row then Some unshown.NoText else None
+why_untold form row = None
 
 -- the same, with its type and its id
 abbrev pub untold_of : Option ShowAs → Row → List Untold
-untold_of form row = option_map_or (λ why. record { kind = row.kind; id = row.id; why = why } ∷ []) (untold form row) []
+untold_of form row = option_map_or (λ why. record { kind = row.kind; id = row.id; why = why } ∷ []) (why_untold form row) []
 
 -- the type is the one that is asked for, if one is
 abbrev pub is_of_kind : Option (List ℕ) → List ℕ → Bool
@@ -40,9 +40,9 @@ untold_in kind form row = if is_of_kind kind row.kind then untold_of form row el
 
 -- what is shown of one resource, or why it isn't: it is no picture, or its text ends too early
 abbrev pub ShowsRow : Option ShowAs → Row → Result Sight NotShown → Type 0
-ShowsRow form row (Ok sight) = IsShownAs form row sight.is_picture sight.bytes.items × (untold form row ≡ None) × (sight.untold.items ≡ [])
+ShowsRow form row (Ok sight) = IsShownAs form row sight.is_picture sight.bytes.items × (why_untold form row ≡ None) × (sight.untold.items ≡ [])
 ShowsRow form row (Err (unshown.NoPicture kind)) = (form ≡ Some Png) × (picture_file row ≡ None) × (kind ≡ row.kind)
-ShowsRow form row (Err unshown.NoText) = untold form row ≡ Some unshown.NoText
+ShowsRow form row (Err unshown.NoText) = why_untold form row ≡ Some unshown.NoText
 ShowsRow form row (Err unshown.HostFull) = ⊤
 ShowsRow form row (Err other) = ⊥
 

@@ -2,7 +2,7 @@
 
 ghost use Rattle.std.specs.Prelude.{◌≡◌, IfOk, OnOk, [], ◌∷◌, ◌++◌};
 ghost use Rattle.std.specs.List.{flat_map};
-ghost use Rattle.fork_view.specs.Sights.{ShowsChosen, ShowsRow, ShowsRows, is_of_kind, untold, untold_in, untold_of};
+ghost use Rattle.fork_view.specs.Sights.{ShowsChosen, ShowsRow, ShowsRows, is_of_kind, untold_in, untold_of, why_untold};
 
 use crate::form::{ends_early, is_text, png_of, push_hex, push_text};
 use fork_bytes::table::Row;
@@ -86,8 +86,8 @@ pub struct Sight {
 }
 
 /// Why a resource can't be shown in a form, where it is no picture.
-fn untold(alloc: Global, row: &Row, form: Option<ShowAs>) -> Result<Option<NotShown>, AllocError>
-    ensures { IfOk result (λ why. why ≡ untold form row.now) }
+fn why_untold(alloc: Global, row: &Row, form: Option<ShowAs>) -> Result<Option<NotShown>, AllocError>
+    ensures { IfOk result (λ why. why ≡ why_untold form row.now) }
 {
     if form == Some(ShowAs::Text) && ends_early(alloc, row)? {
         return Ok(Some(NotShown::NoText));
@@ -129,7 +129,7 @@ fn push_title(text: &mut String, row: &Row) -> Result<(), AllocError> {
 fn sight_of_row(alloc: Global, row: &Row, form: Option<ShowAs>) -> Result<Sight, NotShown>
     ensures { ShowsRow form row.now result }
 {
-    if let Some(why) = untold(alloc, row, form)? {
+    if let Some(why) = why_untold(alloc, row, form)? {
         return Err(why);
     }
     if (form.is_none() || form == Some(ShowAs::Png))
@@ -170,7 +170,7 @@ fn push_titled(
 ) -> Result<(), AllocError>
     ensures { OnOk result (others.new.items ≡ others.old.items ++ untold_of form row.now) }
 {
-    match untold(alloc, row, form)? {
+    match why_untold(alloc, row, form)? {
         Some(why) => {
             let kind = row.kind;
             let id = row.id;
