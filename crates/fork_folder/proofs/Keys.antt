@@ -9,7 +9,7 @@ use Rattle.std.proofs.lemmas.Bool.{and_parts}
 use Rattle.std.proofs.lemmas.Bool.Decides.{Decides-int_eq}
 use Rattle.std.proofs.lemmas.Slice.Eq.{bytes_eq-Decides}
 use Rattle.fork_bytes.specs.Rows.{Row}
-use Rattle.fork_folder.specs.Counts.{count_of, key_cmp}
+use Rattle.fork_folder.specs.Counts.{count_of, key_cmp, kind_count}
 use Rattle.fork_folder.specs.Unpacked.{is_same}
 
 -- rows have one key where they have one type and one id
@@ -38,3 +38,15 @@ counted old new row key n at is updates other =
         ≡ count_of old other + (if is_same other row then 1 else 0)
     by true same = rw (at, sym (one_key row other) ∙ same, same) (ap (λ (n : ℕ). n + 1) (is ∙ one_count old row other same))
     by false same = rw (at, sym (one_key row other) ∙ same, same) (omega arith)
+
+-- with one more of a type, this counts once more, and no other
+pub kind_counted : (old new : BTreeMap (List ℕ) ℕ) (kind : List ℕ) (n : ℕ) → n ≡ kind_count old kind
+    → Updates (slice_cmp nat_cmp) old new kind (Some (n + 1)) → (other : List ℕ) → kind_count new other ≡ kind_count old other + (if bytes_eq kind other then 1 else 0)
+kind_counted old new kind n is updates other =
+    ap (λ (found : Option ℕ). unwrap_or found 0) (updates.0 other) ∙ by (bytes_eq kind other) refl
+  where
+    by : (same : Bool) → bytes_eq kind other ≡ same
+        → unwrap_or (cond (is_eq (slice_cmp nat_cmp kind other)) (Some (n + 1)) (get (slice_cmp nat_cmp) old other)) 0
+        ≡ kind_count old other + (if bytes_eq kind other then 1 else 0)
+    by true same = rw (sym (texts_ties kind other) ∙ same, same) (ap (λ (n : ℕ). n + 1) (is ∙ ap (kind_count old) ((bytes_eq-Decides kind other).0 same)))
+    by false same = rw (sym (texts_ties kind other) ∙ same, same) (omega arith)

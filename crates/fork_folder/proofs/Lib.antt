@@ -1,5 +1,7 @@
 pub mod Keys
 pub mod Symbols
+pub mod Plain
+pub mod Clashes
 pub mod Numbers
 pub mod Apart
 pub mod Safe

@@ -1,8 +1,8 @@
 -- The names of files and folders are such as file systems take.
-use Rattle.std.proofs.Common.{◌≡◌, ◌≢◌, ℕ, zero, suc, ◌+◌, ◌*◌, ◌<◌, ◌≤◌, ◌^◌, ◌%◌, ◌&&◌, Bool, true, false, eqb, leb, List, [], ◌∷◌, ◌++◌, length, take, slice_index, Option, None, Some, refl, sym, ap, ◌∙◌, arith, length-append}
+use Rattle.std.proofs.Common.{◌≡◌, ◌≢◌, ℕ, zero, suc, ◌+◌, ◌*◌, ◌<◌, ◌≤◌, ◌^◌, ◌%◌, ◌&&◌, Bool, true, false, if◌then◌else◌, eqb, leb, List, [], ◌∷◌, ◌++◌, length, take, slice_index, Option, None, Some, refl, sym, ap, ◌∙◌, arith, length-append}
 use Rattle.std.specs.Prelude.{ℤ, pos, negsuc, codes, All, IfSome, count_by, nat_lt, FitsSigned}
 use Rattle.std.specs.Int.{w16}
-use Rattle.std.specs.List.{AllByRecursion, flat_map, list_all}
+use Rattle.std.specs.List.{AllByRecursion, flat_map, list_all, list_any}
 use Rattle.std.specs.Fmt.{decimal, signed_decimal}
 use Rattle.std.proofs.lemmas.Bool.{agree_below_at, eqb-false, leb-true, ltb-true}
 use Rattle.std.proofs.lemmas.List.{get_or_append_left}
@@ -10,7 +10,7 @@ use Rattle.std.proofs.lemmas.List.Sums.{count_by-le-length}
 use Rattle.std.proofs.lemmas.Fmt.{decimal_by_steps, length-decimal-le, decimal_nonempty}
 use Rattle.fork_bytes.specs.Rows.{Row}
 use Rattle.fork_list.specs.Listing.{is_chosen}
-use Rattle.fork_folder.specs.Names.{file_name, folder_name, letter, name_text, nth_text, symbol, symbols, turned}
+use Rattle.fork_folder.specs.Names.{clash, file_name, folder_name, letter, name_text, nth_text, plain_name, plain_symbol, symbol, symbols, turned}
 use Rattle.fork_folder.specs.Unpacked.{Unpacked, file_of, files_from, is_same}
 use Rattle.fork_folder.specs.Laws.{HasSafeNames, IsNamed, IsSafe, is_safe}
 use Rattle.fork_folder.proofs.Apart.{all_picked}
@@ -64,6 +64,48 @@ folder_safe (byte ∷ bytes) four h =
     let all = symbols_safe false (byte ∷ bytes) h in
     let few = all.1 in
     record { bytes = all.0; short = omega arith; shown = symbol_shown byte (symbols (turned false byte) bytes) (h 0 0 (omega arith)) }
+
+-- a plain symbol
+plain_safe : (byte : ℕ) → byte < 256 → list_all is_safe (plain_symbol byte) ≡ true
+plain_safe byte h = agree_below_at (λ b. list_all is_safe (plain_symbol b)) (λ _. true) 256 byte refl h
+
+plain_short : (byte : ℕ) → byte < 256 → length (plain_symbol byte) ≤ 3
+plain_short byte h = leb-true _ _ (agree_below_at (λ b. leb (length (plain_symbol b)) 3) (λ _. true) 256 byte refl h)
+
+plains_safe : (bytes : List ℕ) → All (λ byte. byte < 256) bytes
+    → (list_all is_safe (flat_map plain_symbol bytes) ≡ true) × (length (flat_map plain_symbol bytes) ≤ 3 * length bytes)
+plains_safe [] h = (refl, omega arith)
+plains_safe (byte ∷ bytes) h =
+    let fits : byte < 256 = h 0 0 (omega arith) in
+    let rest = plains_safe bytes (λ k d within. h (suc k) d (omega arith)) in
+    let short = plain_short byte fits in
+    let few = rest.1 in (
+      both (plain_symbol byte) (flat_map plain_symbol bytes) (plain_safe byte fits) rest.0,
+      omega (arith, length-append (plain_symbol byte) (flat_map plain_symbol bytes)),
+    )
+
+plain_first : (byte : ℕ) → byte < 256 → (0 < length (plain_symbol byte)) × (slice_index (plain_symbol byte) 0 ≢ 46)
+plain_first byte h = (
+  ltb-true _ _ (agree_below_at (λ b. nat_lt 0 (length (plain_symbol b))) (λ _. true) 256 byte refl h),
+  eqb-false _ _ (agree_below_at (λ b. eqb (slice_index (plain_symbol b) 0) 46) (λ _. false) 256 byte refl h),
+)
+
+plain_shown : (byte : ℕ) (rest : List ℕ) → byte < 256 → slice_index (plain_symbol byte ++ rest) 0 ≢ 46
+plain_shown byte rest h is =
+    let first = plain_first byte h in
+    first.1 (sym (get_or_append_left (plain_symbol byte) rest 0 0 first.0) ∙ is)
+
+plain_folder_safe : (kind : List ℕ) → length kind ≡ 4 → All (λ byte. byte < 256) kind → IsSafe (plain_name kind)
+plain_folder_safe [] four h = absurd (omega arith)
+plain_folder_safe (byte ∷ bytes) four h =
+    let all = plains_safe (byte ∷ bytes) h in
+    let few = all.1 in
+    record { bytes = all.0; short = omega arith; shown = plain_shown byte (flat_map plain_symbol bytes) (h 0 0 (omega arith)) }
+
+-- either folder
+among_safe : (marked : Bool) (kind : List ℕ) → length kind ≡ 4 → All (λ byte. byte < 256) kind → IsSafe (if marked then folder_name kind else plain_name kind)
+among_safe true kind four h = folder_safe kind four h
+among_safe false kind four h = plain_folder_safe kind four h
 
 -- a letter of a name
 letter_safe : (byte : ℕ) → byte < 256 → list_all is_safe (letter byte) ≡ true
@@ -144,16 +186,16 @@ file_safe id n name fits few h =
     }
 
 -- a row's file and folder
-row_safe : (before : List Row) (row : Row) → IsNamed row → length before < 2 ^ 63 → HasSafeNames (file_of before row)
-row_safe before row named few = (
-  folder_safe row.kind named.four named.bytes,
+row_safe : (types : List (List ℕ)) (before : List Row) (row : Row) → IsNamed row → length before < 2 ^ 63 → HasSafeNames (file_of types before row)
+row_safe types before row named few = (
+  among_safe (list_any (clash row.kind) types) row.kind named.four named.bytes,
   file_safe row.id (count_by (is_same row) before) row.name named.id (omega (arith, count_by-le-length (is_same row) before)) named.name,
 )
 
-pub safe_names : (kinds : List (List ℕ)) (before rows : List Row) → AllByRecursion IsNamed rows → length before + length rows < 2 ^ 63
-    → AllByRecursion HasSafeNames (files_from kinds before rows)
-safe_names kinds before [] all few = tt
-safe_names kinds before (row ∷ rows) all few =
+pub safe_names : (types kinds : List (List ℕ)) (before rows : List Row) → AllByRecursion IsNamed rows → length before + length rows < 2 ^ 63
+    → AllByRecursion HasSafeNames (files_from types kinds before rows)
+safe_names types kinds before [] all few = tt
+safe_names types kinds before (row ∷ rows) all few =
     let longer = length-append before (row ∷ []) in
-    all_picked HasSafeNames (is_chosen kinds row.kind) (file_of before row) (files_from kinds (before ++ row ∷ []) rows)
-    (row_safe before row all.0 (omega arith)) (safe_names kinds (before ++ row ∷ []) rows all.1 (omega arith))
+    all_picked HasSafeNames (is_chosen kinds row.kind) (file_of types before row) (files_from types kinds (before ++ row ∷ []) rows)
+    (row_safe types before row all.0 (omega arith)) (safe_names types kinds (before ++ row ∷ []) rows all.1 (omega arith))

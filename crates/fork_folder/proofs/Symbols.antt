@@ -6,11 +6,11 @@ use Rattle.std.proofs.lemmas.List.{drop_at, get_or_append_left, map-append, take
 use Rattle.fork_folder.specs.Names.{folded, is_small, small_of, symbol, symbols, turned}
 
 -- how long a symbol is, by its first byte
-abbrev width : ℕ → ℕ
+abbrev pub width : ℕ → ℕ
 width first = if first == 126 then 2 else if first == 37 then 3 else 1
 
 -- a hexadecimal digit's value
-abbrev digit : ℕ → ℕ
+abbrev pub digit : ℕ → ℕ
 digit byte = if nat_le byte 57 then byte - 48 else byte - 87
 
 -- a letter of this case, and else the byte itself
@@ -26,7 +26,7 @@ value small text =
     else if first == 95 then 32
     else cased small first
 
-wide : (small : Bool) (byte : ℕ) → byte < 256 → length (folded (symbol small byte)) ≡ width (slice_index (folded (symbol small byte)) 0)
+pub wide : (small : Bool) (byte : ℕ) → byte < 256 → length (folded (symbol small byte)) ≡ width (slice_index (folded (symbol small byte)) 0)
 wide true byte h = eqb-true _ _ (agree_below_at (λ b. eqb (length (folded (symbol true b))) (width (slice_index (folded (symbol true b)) 0))) (λ _. true) 256 byte refl h)
 wide false byte h = eqb-true _ _ (agree_below_at (λ b. eqb (length (folded (symbol false b))) (width (slice_index (folded (symbol false b)) 0))) (λ _. true) 256 byte refl h)
 
@@ -34,12 +34,12 @@ worth : (small : Bool) (byte : ℕ) → byte < 256 → value small (folded (symb
 worth true byte h = eqb-true _ _ (agree_below_at (λ b. eqb (value true (folded (symbol true b))) b) (λ _. true) 256 byte refl h)
 worth false byte h = eqb-true _ _ (agree_below_at (λ b. eqb (value false (folded (symbol false b))) b) (λ _. true) 256 byte refl h)
 
-some : (small : Bool) (byte : ℕ) → byte < 256 → 0 < length (folded (symbol small byte))
+pub some : (small : Bool) (byte : ℕ) → byte < 256 → 0 < length (folded (symbol small byte))
 some true byte h = ltb-true _ _ (agree_below_at (λ b. nat_lt 0 (length (folded (symbol true b)))) (λ _. true) 256 byte refl h)
 some false byte h = ltb-true _ _ (agree_below_at (λ b. nat_lt 0 (length (folded (symbol false b)))) (λ _. true) 256 byte refl h)
 
 -- two texts begin with the same symbol where their first bytes say how long it is
-same_start : (ws vs a b : List ℕ) → 0 < length ws → 0 < length vs → length ws ≡ width (slice_index ws 0) → length vs ≡ width (slice_index vs 0)
+pub same_start : (ws vs a b : List ℕ) → 0 < length ws → 0 < length vs → length ws ≡ width (slice_index ws 0) → length vs ≡ width (slice_index vs 0)
     → ws ++ a ≡ vs ++ b → (ws ≡ vs) × (a ≡ b)
 same_start ws vs a b hw hv ww wv e =
     let first : slice_index ws 0 ≡ slice_index vs 0 =

@@ -1,5 +1,5 @@
 -- The names of files and folders that resources are unpacked to.
-use Rattle.std.specs.Prelude.{ℕ, ℤ, ◌+◌, ◌-◌, ◌/◌, ◌%◌, ◌==◌, ◌&&◌, ◌||◌, not, nat_le, if◌then◌else◌, Bool, true, false, List, [], ◌∷◌, ◌++◌, take, map, codes, Option, Some, None}
+use Rattle.std.specs.Prelude.{ℕ, ℤ, ◌+◌, ◌-◌, ◌/◌, ◌%◌, ◌==◌, ◌&&◌, ◌||◌, not, nat_le, if◌then◌else◌, Bool, true, false, List, [], ◌∷◌, ◌++◌, take, map, codes, bytes_eq, Option, Some, None}
 use Rattle.std.specs.List.{flat_map, list_any}
 use Rattle.std.specs.Fmt.{decimal, digit_glyph, signed_decimal}
 
@@ -37,9 +37,38 @@ abbrev pub symbols : Bool → List ℕ → List ℕ
 symbols small [] = []
 symbols small (byte ∷ bytes) = symbol small byte ++ symbols (turned small byte) bytes
 
--- the folder of a type
+-- the folder of a type, which no other type has without regard to case
 abbrev pub folder_name : List ℕ → List ℕ
 folder_name kind = symbols false kind
+
+-- a byte of a type in its plain folder: letters are as they are
+abbrev pub plain_symbol : ℕ → List ℕ
+plain_symbol byte =
+    if is_capital byte then byte ∷ []
+    else if is_small byte then byte ∷ []
+    else if is_plain byte then byte ∷ []
+    else if byte == 32 then 95 ∷ []
+    else escaped byte
+
+-- the plain folder of a type
+abbrev pub plain_name : List ℕ → List ℕ
+plain_name kind = flat_map plain_symbol kind
+
+-- a letter without regard to its case
+abbrev pub small_of : ℕ → ℕ
+small_of byte = if is_capital byte then byte + 32 else byte
+
+-- a name as a file system knows it that has no regard to case
+abbrev pub folded : List ℕ → List ℕ
+folded name = map small_of name
+
+-- two types that differ, but not without regard to case
+abbrev pub clash : List ℕ → List ℕ → Bool
+clash kind other = not (bytes_eq other kind) && bytes_eq (folded other) (folded kind)
+
+-- the folder of a type among the types of a file: the plain one, unless one of them clashes
+abbrev pub folder_among : List (List ℕ) → List ℕ → List ℕ
+folder_among types kind = if list_any (clash kind) types then folder_name kind else plain_name kind
 
 -- whether a byte is in the name of a file as it is: printable ASCII, but nothing that means something to a file
 -- system
@@ -62,11 +91,3 @@ name_text (Some name) = 32 ∷ flat_map letter (take 72 name)
 -- the file of a resource: its id, which one it is of several, and its name
 abbrev pub file_name : ℤ → ℕ → Option (List ℕ) → List ℕ
 file_name id n name = signed_decimal id ++ (nth_text n ++ (name_text name ++ codes ".bin"))
-
--- a letter without regard to its case
-abbrev pub small_of : ℕ → ℕ
-small_of byte = if is_capital byte then byte + 32 else byte
-
--- a name as a file system knows it that has no regard to case
-abbrev pub folded : List ℕ → List ℕ
-folded name = map small_of name

@@ -4,22 +4,22 @@ use Rattle.std.specs.List.{find, AllByRecursion}
 use Rattle.fork_bytes.specs.Rows.{Row}
 use Rattle.fork_list.specs.Listing.{is_chosen}
 use Rattle.fork_folder.specs.Laws.{IsNamed, path_of}
-use Rattle.fork_folder.specs.Unpacked.{Unpacked, file_of, unpacked}
+use Rattle.fork_folder.specs.Unpacked.{Unpacked, file_of, types_of, unpacked}
 use Rattle.fork_folder.specs.Packed.{Listed, packed}
 
 -- what the manifest says of a row in this file
 abbrev pub entry_of : Row → Unpacked → Listed
 entry_of row file = record { kind = row.kind; id = row.id; name = row.name; attributes = row.attributes; file = path_of file }
 
--- what it says of rows of these types, after other rows
-abbrev pub entries_from : List (List ℕ) → List Row → List Row → List Listed
-entries_from kinds done [] = []
-entries_from kinds done (row ∷ rows) =
-    (if is_chosen kinds row.kind then entry_of row (file_of done row) ∷ [] else []) ++ entries_from kinds (done ++ row ∷ []) rows
+-- what it says of rows of these kinds, after other rows, in a fork of these types
+abbrev pub entries_from : List (List ℕ) → List (List ℕ) → List Row → List Row → List Listed
+entries_from types kinds done [] = []
+entries_from types kinds done (row ∷ rows) =
+    (if is_chosen kinds row.kind then entry_of row (file_of types done row) ∷ [] else []) ++ entries_from types kinds (done ++ row ∷ []) rows
 
 -- what the manifest says of the rows of these types
 abbrev pub manifest : List (List ℕ) → List Row → List Listed
-manifest kinds rows = entries_from kinds [] rows
+manifest kinds rows = entries_from (types_of rows) kinds [] rows
 
 -- the bytes of the first file of this path, if there is one
 abbrev pub folder_with : List Unpacked → List ℕ → Option (List ℕ)

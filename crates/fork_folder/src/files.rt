@@ -1,12 +1,14 @@
 //! The files of all resources.
 
-ghost use Rattle.std.specs.Prelude.{◌≡◌, ◌<◌, ◌^◌, IfOk, OnOk, if◌then◌else◌, map, option_map, [], ◌∷◌, ◌++◌};
+ghost use Rattle.std.specs.Prelude.{◌≡◌, ℕ, List, ◌<◌, ◌^◌, IfOk, OnOk, if◌then◌else◌, map, option_map, [], ◌∷◌, ◌++◌};
 ghost use Rattle.fork_list.specs.Listing.{is_chosen};
-ghost use Rattle.fork_folder.specs.Unpacked.{chosen, file_row, nth_file, unpacked, unpacked_file};
+ghost use Rattle.fork_bytes.specs.Rows.{Row};
+ghost use Rattle.fork_folder.specs.Counts.{CountTypes};
+ghost use Rattle.fork_folder.specs.Unpacked.{chosen, file_row, nth_file, types_of, unpacked, unpacked_file};
 
 use crate::counts::{Counts, count_row};
 use crate::file_name::FileName;
-use crate::folder::FolderName;
+use crate::types::Types;
 use fork_bytes::table::Row;
 use fork_list::is_chosen;
 use mac_base::resource::ResType;
@@ -33,15 +35,19 @@ fn name_of<'r>(row: &'r Row) -> Option<&'r [u8]>
 }
 
 /// The file of the nth row, from 0 on, of its type and id.
-fn nth_file<'a>(alloc: Global, n: usize, row: &'a Row<'a>) -> Result<File<'a>, AllocError>
+fn nth_file<'a>(
+    alloc: Global,
+    types: &Types,
+    n: usize,
+    row: &'a Row<'a>,
+) -> Result<File<'a>, AllocError>
     requires { n < 2 ^ 63 }
-    ensures file { IfOk result (λ file. unpacked_file file ≡ nth_file n row.now) }
+    ensures file { IfOk result (λ file. (all : List Row) → CountTypes types.now all → unpacked_file file ≡ nth_file (types_of all) n row.now) }
     ensures row { IfOk result (λ file. file_row file ≡ row.now) }
 {
-    let folder = FolderName(row.kind);
     let name = FileName::new(row.id, n, name_of(row));
     Ok(File {
-        folder: format!(in alloc; "{folder}")?,
+        folder: types.folder(alloc, row.kind)?,
         name: format!(in alloc; "{name}")?,
         row,
     })
@@ -52,19 +58,20 @@ fn nth_file<'a>(alloc: Global, n: usize, row: &'a Row<'a>) -> Result<File<'a>, A
 fn push_file<'a>(
     alloc: Global,
     files: &mut Vec<File<'a>>,
+    types: &Types,
     kinds: &[ResType],
     n: usize,
     row: &'a Row<'a>,
 ) -> Result<(), AllocError>
     requires { n < 2 ^ 63 }
-    ensures files { OnOk result (map unpacked_file files.new.items
-        ≡ map unpacked_file files.old.items ++ (if is_chosen kinds.now row.now.kind then nth_file n row.now ∷ [] else [])) }
+    ensures files { OnOk result ((all : List Row) → CountTypes types.now all → map unpacked_file files.new.items
+        ≡ map unpacked_file files.old.items ++ (if is_chosen kinds.now row.now.kind then nth_file (types_of all) n row.now ∷ [] else [])) }
     ensures rows { OnOk result (map file_row files.new.items ≡ map file_row files.old.items ++ chosen kinds.now (row.now ∷ [])) }
 {
     if !is_chosen(kinds, row.kind) {
         return Ok(());
     }
-    let file = nth_file(alloc, n, row)?;
+    let file = nth_file(alloc, types, n, row)?;
     files.push(file)?;
     Ok(())
 }
@@ -80,10 +87,11 @@ pub fn unpacked<'a>(
     ensures rows { IfOk result (λ files. map file_row files.items ≡ chosen kinds.now rows.now) }
 {
     let mut files = Vec::new(alloc);
+    let types = Types::of_rows(alloc, rows)?;
     let mut counts = Counts::new(alloc);
     for row in rows {
         let n = count_row(&mut counts, row)?;
-        push_file(alloc, &mut files, kinds, n, row)?;
+        push_file(alloc, &mut files, &types, kinds, n, row)?;
     }
     Ok(files)
 }

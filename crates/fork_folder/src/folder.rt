@@ -1,7 +1,7 @@
 //! The folder of a type.
 
 ghost use Rattle.std.specs.Prelude.{◌≡◌, Some};
-ghost use Rattle.fork_folder.specs.Names.{escaped, folder_name, is_capital, is_plain, is_small, symbol, turned};
+ghost use Rattle.fork_folder.specs.Names.{escaped, folder_name, is_capital, is_plain, is_small, plain_name, plain_symbol, symbol, turned};
 
 use fork_list::hexadecimal_digit;
 use mac_base::resource::ResType;
@@ -95,12 +95,52 @@ impl fmt::Display for Symbol {
     }
 }
 
-/// The name of the folder for a type: capital letters as they are, and `~` before a letter whose case is another than
-/// that of the letter before it. Types that differ have folders that differ, for a file system that knows no case too.
+/// A byte of a type where letters are as they are.
 #[derive(Clone, Copy)]
-pub(crate) struct FolderName(pub ResType);
+struct PlainSymbol(u8);
 
-impl fmt::Display for FolderName {
+impl fmt::Display for PlainSymbol {
+    ghost output = { λ s. Some (plain_symbol s.0) };
+
+    fn fmt<W: fmt::Write>(&self, f: &mut fmt::Formatter<W>) -> fmt::Result {
+        let byte = self.0;
+        let letter = char::from(byte);
+        if is_capital(byte) || is_small(byte) || is_plain(byte) {
+            write!(f, "{letter}")
+        } else if byte == b' ' {
+            write!(f, "_")
+        } else {
+            let escape = Escape(byte);
+            write!(f, "{escape}")
+        }
+    }
+}
+
+/// The plain name of the folder for a type. A file system that knows no case takes those of types that differ in it for
+/// one.
+#[derive(Clone, Copy)]
+pub(crate) struct PlainName(pub ResType);
+
+impl fmt::Display for PlainName {
+    ghost output = { λ n. Some (plain_name n.0) };
+
+    fn fmt<W: fmt::Write>(&self, f: &mut fmt::Formatter<W>) -> fmt::Result {
+        let [first, second, third, fourth] = self.0.bytes();
+        let first = PlainSymbol(first);
+        let second = PlainSymbol(second);
+        let third = PlainSymbol(third);
+        let fourth = PlainSymbol(fourth);
+        write!(f, "{first}{second}{third}{fourth}")
+    }
+}
+
+/// The name of the folder for a type that clashes with another: capital letters as they are, and `~` before a letter
+/// whose case is another than that of the letter before it. Types that differ have folders that differ, for a file
+/// system that knows no case too.
+#[derive(Clone, Copy)]
+pub(crate) struct MarkedName(pub ResType);
+
+impl fmt::Display for MarkedName {
     ghost output = { λ n. Some (folder_name n.0) };
 
     fn fmt<W: fmt::Write>(&self, f: &mut fmt::Formatter<W>) -> fmt::Result {

@@ -10,6 +10,7 @@ mod folder;
 mod laws;
 pub mod manifest;
 pub mod rows;
+mod types;
 
 pub use files::unpacked;
 pub use laws::{folder_laws, pack_laws};

@@ -1,5 +1,7 @@
 -- What is shown of resources to people.
-use Rattle.std.specs.Prelude.{◌≡◌, ◌≢◌, ◌⊎◌, ℕ, Bool, true, false, List, Option, None, Some, Result, Ok, Err, ⊤}
+use Rattle.std.specs.Prelude.{◌≡◌, ◌≢◌, ◌⊎◌, ℕ, Bool, true, false, if◌then◌else◌, List, [], ◌∷◌, bytes_eq, Option, None, Some, Result, Ok, Err, ⊤}
+use Rattle.std.specs.List.{flat_map}
+use Rattle.std.specs.Option.{option_map_or}
 use Rattle.fork_bytes.specs.Rows.{Row}
 use Rattle.fork_answer.specs.Answer.{wanted_row}
 use Rattle.fork_view.specs.declared.view.Chosen.TheVariants as chosen
@@ -9,29 +11,47 @@ use Rattle.fork_view.specs.declared.view.NotShown.TheVariants as unshown
 use Rattle.fork_view.specs.declared.view.ShowAs.{ShowAs}
 use Rattle.fork_view.specs.declared.view.ShowAs.TheVariants.{Text, Png}
 use Rattle.fork_view.specs.declared.view.Sight.{Sight}
+use Rattle.fork_view.specs.declared.view.Untold.{Untold}
 use Rattle.fork_view.specs.declared.view.View.{View}
-use Rattle.fork_view.specs.Forms.{picture_file}
+use Rattle.fork_view.specs.Forms.{ends_early, picture_file}
 
 -- a resource that is a picture is shown as one, unless another form is asked for
 abbrev pub IsShownAs : Option ShowAs → Row → Bool → List ℕ → Type 0
 IsShownAs form row true bytes = ((form ≡ None) ⊎ (form ≡ Some Png)) × (picture_file row ≡ Some bytes)
 IsShownAs form row false bytes = (form ≢ Some Png) × (form ≡ None → picture_file row ≡ None)
 
+-- why a resource can't be shown in a form, where it is no picture: its text ends too early
+abbrev pub why_untold : Option ShowAs → Row → Option NotShown
+why_untold (Some Text) row = if ends_early row then Some unshown.NoText else None
+why_untold form row = None
+
+-- the same, with its type and its id
+abbrev pub untold_of : Option ShowAs → Row → List Untold
+untold_of form row = option_map_or (λ why. record { kind = row.kind; id = row.id; why = why } ∷ []) (why_untold form row) []
+
+-- the type is the one that is asked for, if one is
+abbrev pub is_of_kind : Option (List ℕ) → List ℕ → Bool
+is_of_kind None own = true
+is_of_kind (Some kind) own = bytes_eq kind own
+
+-- the same, where a resource is of the type that is asked for
+abbrev pub untold_in : Option (List ℕ) → Option ShowAs → Row → List Untold
+untold_in kind form row = if is_of_kind kind row.kind then untold_of form row else []
+
 -- what is shown of one resource, or why it isn't: it is no picture, or its text ends too early
 abbrev pub ShowsRow : Option ShowAs → Row → Result Sight NotShown → Type 0
-ShowsRow form row (Ok sight) = IsShownAs form row sight.is_picture sight.bytes.items
-ShowsRow form row (Err unshown.NoPicture) = (form ≡ Some Png) × (picture_file row ≡ None)
-ShowsRow form row (Err unshown.NoText) = form ≡ Some Text
+ShowsRow form row (Ok sight) = IsShownAs form row sight.is_picture sight.bytes.items × (why_untold form row ≡ None) × (sight.untold.items ≡ [])
+ShowsRow form row (Err (unshown.NoPicture kind)) = (form ≡ Some Png) × (picture_file row ≡ None) × (kind ≡ row.kind)
+ShowsRow form row (Err unshown.NoText) = why_untold form row ≡ Some unshown.NoText
 ShowsRow form row (Err unshown.HostFull) = ⊤
 ShowsRow form row (Err other) = ⊥
 
--- what is shown of several, which is text, or why they aren't
-abbrev pub ShowsRows : Option ShowAs → Result Sight NotShown → Type 0
-ShowsRows form (Ok sight) = (form ≢ Some Png) × (sight.is_picture ≡ false)
-ShowsRows form (Err unshown.ManyPictures) = form ≡ Some Png
-ShowsRows form (Err unshown.NoText) = form ≡ Some Text
-ShowsRows form (Err unshown.HostFull) = ⊤
-ShowsRows form (Err other) = ⊥
+-- what is shown of several, which is text, with those that can't be shown so, each of them; or why nothing is
+abbrev pub ShowsRows : Option (List ℕ) → Option ShowAs → List Row → Result Sight NotShown → Type 0
+ShowsRows kind form rows (Ok sight) = (form ≢ Some Png) × (sight.is_picture ≡ false) × (sight.untold.items ≡ flat_map (untold_in kind form) rows)
+ShowsRows kind form rows (Err unshown.ManyPictures) = form ≡ Some Png
+ShowsRows kind form rows (Err unshown.HostFull) = ⊤
+ShowsRows kind form rows (Err other) = ⊥
 
 -- what is shown of the one that is asked for, if the rows have it
 abbrev pub ShowsFound : Option ShowAs → Option Row → Result Sight NotShown → Type 0
@@ -40,5 +60,5 @@ ShowsFound form (Some row) result = ShowsRow form row result
 
 abbrev pub ShowsChosen : Chosen → Option ShowAs → List Row → Result Sight NotShown → Type 0
 ShowsChosen (chosen.One wanted) form rows result = ShowsFound form (wanted_row wanted rows) result
-ShowsChosen chosen.All form rows result = ShowsRows form result
-ShowsChosen (chosen.Kind kind) form rows result = ShowsRows form result
+ShowsChosen chosen.All form rows result = ShowsRows None form rows result
+ShowsChosen (chosen.Kind kind) form rows result = ShowsRows (Some kind) form rows result

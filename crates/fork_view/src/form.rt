@@ -1,7 +1,7 @@
 //! The bytes of a resource as text, in hexadecimal digits, and as a picture.
 
 ghost use Rattle.std.specs.Prelude.{◌≡◌, IfOk, false, option_map, string_bytes};
-ghost use Rattle.fork_view.specs.Forms.{is_text, picture_file};
+ghost use Rattle.fork_view.specs.Forms.{ends_early, is_text, picture_file};
 
 use crate::{format_of, picture_of, png_file};
 use fork_bytes::table::Row;
@@ -84,6 +84,19 @@ pub(crate) fn is_text(row: &Row) -> bool
     ensures { result ≡ is_text row.now.kind }
 {
     matches!(&row.kind.bytes(), b"STR " | b"STR#" | b"TEXT" | b"vers")
+}
+
+/// Whether a resource ends before its texts do.
+pub(crate) fn ends_early(alloc: Global, row: &Row) -> Result<bool, AllocError>
+    ensures { IfOk result (λ is_early. is_early ≡ ends_early row.now) }
+{
+    let bytes = row.datum.as_slice();
+    match &row.kind.bytes() {
+        b"STR " => Ok(string_of(bytes).is_none()),
+        b"STR#" => Ok(strings_of(alloc, bytes)?.is_none()),
+        b"vers" => Ok(version_of(bytes).is_none()),
+        _ => Ok(false),
+    }
 }
 
 /// Adds a resource as text: its strings, its version, or all its bytes as MacRoman. False where it ends before its

@@ -18,4 +18,4 @@ pub use format::{format_of, picture_of};
 pub use laws::png_law;
 pub use png::png_file;
 pub use unpack::{NotUnpacked, Unpacking};
-pub use view::{Chosen, NotShown, ShowAs, Sight, View, sight_of};
+pub use view::{Chosen, NotShown, ShowAs, Sight, Untold, View, sight_of};

@@ -1,13 +1,14 @@
 //! Resources shown to people.
 
-ghost use Rattle.std.specs.Prelude.{◌≡◌, ◌⊎◌, Some, IfErr};
-ghost use Rattle.fork_view.specs.Sights.{ShowsChosen, ShowsRow, ShowsRows};
+ghost use Rattle.std.specs.Prelude.{◌≡◌, IfOk, OnOk, [], ◌∷◌, ◌++◌};
+ghost use Rattle.std.specs.List.{flat_map};
+ghost use Rattle.fork_view.specs.Sights.{ShowsChosen, ShowsRow, ShowsRows, is_of_kind, untold_in, untold_of, why_untold};
 
-use crate::form::{is_text, png_of, push_hex, push_text};
+use crate::form::{ends_early, is_text, png_of, push_hex, push_text};
 use fork_bytes::table::Row;
 use fork_list::find::Wanted;
 use fork_list::letters::Letters;
-use fork_list::{KindText, NamePart, find_row};
+use fork_list::{KindText, NamePart, Quoted, find_row};
 use mac_base::resource::ResType;
 use std::alloc::{AllocError, Global};
 use thiserror::Error;
@@ -42,14 +43,14 @@ pub enum NotShown {
     /// The fork has no such resource.
     #[error("the fork has no such resource")]
     NotFound,
-    /// It can't be a PNG file.
-    #[error("it is no picture that --as png can write: of 'ICON', 'ICN#', 'ics#', 'CURS' or 'SICN', and as long as these are; --as hex shows its bytes")]
-    NoPicture,
+    /// One of this type can't be a PNG file.
+    #[error("this {kind} is no picture that is written as a PNG file: such are 'ICON', 'ICN#', 'ics#', 'CURS' and 'SICN', as long as these are; --as hex writes hexadecimal digits, and --as text its bytes as text", kind = Quoted::single(Letters::Roman, &.0.bytes()))]
+    NoPicture(ResType),
     /// It can't be text.
     #[error("it ends before its texts do; --as hex shows its bytes")]
     NoText,
     /// Several resources can't be one PNG file.
-    #[error("--as png writes one picture: name a resource by its type and its id")]
+    #[error("a PNG file has one picture: name a resource by its type and its id; --as hex writes hexadecimal digits, and --as text texts")]
     ManyPictures,
     /// The host has no memory.
     #[error("the host has no memory")]
@@ -67,11 +68,31 @@ impl From<AllocError> for NotShown {
     }
 }
 
+/// A resource that isn't shown among others, and why.
+#[derive(Clone, Copy, Debug)]
+pub struct Untold {
+    pub kind: ResType,
+    pub id: i16,
+    pub why: NotShown,
+}
+
 /// What is shown, and whether it is a picture, which isn't for a terminal.
 #[derive(Drop)]
 pub struct Sight {
     pub bytes: Vec<u8>,
     pub is_picture: bool,
+    /// The resources that should be shown, too, and can't be in the form that is asked for.
+    pub untold: Vec<Untold>,
+}
+
+/// Why a resource can't be shown in a form, where it is no picture.
+fn why_untold(alloc: Global, row: &Row, form: Option<ShowAs>) -> Result<Option<NotShown>, AllocError>
+    ensures { IfOk result (λ why. why ≡ why_untold form row.now) }
+{
+    if form == Some(ShowAs::Text) && ends_early(alloc, row)? {
+        return Ok(Some(NotShown::NoText));
+    }
+    Ok(None)
 }
 
 /// Adds a resource in a form, or else by its type as text or in hexadecimal digits.
@@ -80,22 +101,14 @@ fn push_row(
     text: &mut String,
     row: &Row,
     form: Option<ShowAs>,
-) -> Result<(), NotShown>
-    ensures { IfErr result (λ why. (why ≡ NotShown.HostFull) ⊎ ((why ≡ NotShown.NoText) × (form ≡ Some ShowAs.Text))) }
-{
-    let bytes = row.datum.as_slice();
-    match form {
-        Some(ShowAs::Text) => {
-            if !push_text(alloc, text, row)? {
-                return Err(NotShown::NoText);
-            }
-        }
-        None if is_text(row) => {
-            if !push_text(alloc, text, row)? {
-                push_hex(text, bytes)?;
-            }
-        }
-        _ => push_hex(text, bytes)?,
+) -> Result<(), AllocError> {
+    let is_shown = match form {
+        Some(ShowAs::Text) => push_text(alloc, text, row)?,
+        None if is_text(row) => push_text(alloc, text, row)?,
+        _ => false,
+    };
+    if !is_shown {
+        push_hex(text, row.datum.as_slice())?;
     }
     Ok(())
 }
@@ -116,23 +129,76 @@ fn push_title(text: &mut String, row: &Row) -> Result<(), AllocError> {
 fn sight_of_row(alloc: Global, row: &Row, form: Option<ShowAs>) -> Result<Sight, NotShown>
     ensures { ShowsRow form row.now result }
 {
-    if form.is_none() || form == Some(ShowAs::Png) {
-        if let Some(bytes) = png_of(alloc, row)? {
-            return Ok(Sight {
-                bytes,
-                is_picture: true,
-            });
-        }
+    if let Some(why) = why_untold(alloc, row, form)? {
+        return Err(why);
+    }
+    if (form.is_none() || form == Some(ShowAs::Png))
+        && let Some(bytes) = png_of(alloc, row)?
+    {
+        return Ok(Sight {
+            bytes,
+            is_picture: true,
+            untold: Vec::new(alloc),
+        });
     }
     if form == Some(ShowAs::Png) {
-        return Err(NotShown::NoPicture);
+        return Err(NotShown::NoPicture(row.kind));
     }
     let mut text = String::new(alloc);
     push_row(alloc, &mut text, row, form)?;
     Ok(Sight {
         bytes: text.into_bytes(),
         is_picture: false,
+        untold: Vec::new(alloc),
     })
+}
+
+/// Whether a type is the one that is asked for, if one is.
+fn is_of_kind(kind: Option<ResType>, own: ResType) -> bool
+    ensures { result ≡ is_of_kind kind own }
+{
+    kind.is_none() || kind == Some(own)
+}
+
+/// Adds a resource after its title, or to those that can't be shown.
+fn push_titled(
+    alloc: Global,
+    text: &mut String,
+    others: &mut Vec<Untold>,
+    row: &Row,
+    form: Option<ShowAs>,
+) -> Result<(), AllocError>
+    ensures { OnOk result (others.new.items ≡ others.old.items ++ untold_of form row.now) }
+{
+    match why_untold(alloc, row, form)? {
+        Some(why) => {
+            let kind = row.kind;
+            let id = row.id;
+            others.push(Untold { kind, id, why })?;
+        }
+        None => {
+            push_title(text, row)?;
+            push_row(alloc, text, row, form)?;
+        }
+    }
+    Ok(())
+}
+
+/// Adds a resource, if it is of the type that is asked for.
+fn push_chosen(
+    alloc: Global,
+    text: &mut String,
+    others: &mut Vec<Untold>,
+    row: &Row,
+    kind: Option<ResType>,
+    form: Option<ShowAs>,
+) -> Result<(), AllocError>
+    ensures { OnOk result (others.new.items ≡ others.old.items ++ untold_in kind form row.now) }
+{
+    if !is_of_kind(kind, row.kind) {
+        return Ok(());
+    }
+    push_titled(alloc, text, others, row, form)
 }
 
 /// Resources, each after a line with its type, its id and its name.
@@ -142,25 +208,25 @@ fn sight_of_rows(
     kind: Option<ResType>,
     form: Option<ShowAs>,
 ) -> Result<Sight, NotShown>
-    ensures { ShowsRows form result }
+    ensures { ShowsRows kind form rows.now result }
 {
     if form == Some(ShowAs::Png) {
         return Err(NotShown::ManyPictures);
     }
     let mut text = String::new(alloc);
+    let mut others = Vec::new(alloc);
     for row in rows {
-        if kind.is_none() || kind == Some(row.kind) {
-            push_title(&mut text, row)?;
-            push_row(alloc, &mut text, row, form)?;
-        }
+        push_chosen(alloc, &mut text, &mut others, row, kind, form)?;
     }
     Ok(Sight {
         bytes: text.into_bytes(),
         is_picture: false,
+        untold: others,
     })
 }
 
-/// What is shown of rows.
+/// What is shown of rows. Of several rows those that can't be shown in the form that is asked for are told with the
+/// others.
 pub fn sight_of(alloc: Global, view: &View, rows: &[Row]) -> Result<Sight, NotShown>
     ensures { ShowsChosen view.now.chosen view.now.form rows.now result }
 {

@@ -6,6 +6,7 @@ ghost use Rattle.fork_words.specs.Asks.{IsFault, IsFit};
 ghost use Rattle.fork_words.specs.Kinds.{IsKindRefused, NameKinds, NamesKind};
 
 use crate::command::program;
+use crate::ending::view_form;
 use crate::fault::Fault;
 use crate::size::{LIMIT, limit_of};
 use crate::work::{Work, work_of};
@@ -16,7 +17,7 @@ use fork_list::find::{Key, Wanted};
 use fork_list::letters::Letters;
 use fork_list::{bytes_of, kind_of, name_of};
 use fork_report::{Bytes, Form, Report};
-use fork_view::{Chosen, ShowAs, Unpacking, View};
+use fork_view::{Chosen, Unpacking, View};
 use mac_base::resource::ResType;
 use std::alloc::{AllocError, Global};
 use std::convert::AsStr;
@@ -285,16 +286,6 @@ fn asked_to_get<'a>(alloc: Global, matches: &ArgMatches<'a>) -> Result<Asked<'a>
     shown(alloc, Request::Get(Wanted { kind, key, nth }), matches)
 }
 
-/// The form that `--as` names.
-fn shown_as(word: &str) -> Result<ShowAs, Fault> {
-    match word {
-        "text" => Ok(ShowAs::Text),
-        "hex" => Ok(ShowAs::Hex),
-        "png" => Ok(ShowAs::Png),
-        _ => Err(Fault::NoForm),
-    }
-}
-
 /// Which resources a type and an id or a name ask for, where they are given.
 fn chosen_by(alloc: Global, matches: &ArgMatches<'_>) -> Result<Chosen, NotAsked>
     ensures { IfErr result IsFault }
@@ -315,12 +306,13 @@ fn asked_to_view<'a>(alloc: Global, matches: &ArgMatches<'a>) -> Result<Asked<'a
     ensures fit { IfOk result IsFit }
     ensures fault { IfErr result IsFault }
 {
-    let form = matches.get_str("as").map(shown_as).transpose()?;
+    let output = matches.get_str("output");
+    let form = view_form(alloc, matches.get_str("as"), output)?;
     let chosen = chosen_by(alloc, matches)?;
     Ok(Asked::View(Viewing {
         view: View { chosen, form },
         file: word(matches, "file"),
-        output: matches.get_str("output"),
+        output,
     }))
 }
 

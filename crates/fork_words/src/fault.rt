@@ -47,4 +47,7 @@ pub enum Fault {
     /// What `--as` has is no form.
     #[error("--as takes text, hex or png")]
     NoForm,
+    /// The output's name ends as that of a picture or a sound which isn't made.
+    #[error("no file of this ending is made: show writes texts (--as text), hexadecimal digits (--as hex), and as OUT.png 'ICON', 'ICN#', 'ics#', 'CURS' and 'SICN'; get writes the bytes of a resource as they are")]
+    NoEnding,
 }

@@ -3,6 +3,7 @@
 
 pub mod asked;
 mod command;
+mod ending;
 pub mod fault;
 pub mod size;
 pub mod work;

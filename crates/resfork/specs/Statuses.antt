@@ -21,11 +21,13 @@ is_of_resource (problem.NoKind kind) = true
 is_of_resource problem.Twice = true
 is_of_resource other = false
 
--- the words of the command line are bad, or bytes would go to a terminal
+-- the words of the command line are bad, as those that ask for a form that a resource hasn't; or bytes would go to a
+-- terminal
 abbrev pub is_of_words : Problem → Bool
-is_of_words (problem.View sight.NoPicture) = true
+is_of_words (problem.View (sight.NoPicture kind)) = true
 is_of_words (problem.View sight.NoText) = true
 is_of_words (problem.View sight.ManyPictures) = true
+is_of_words (problem.Untold others) = true
 is_of_words problem.Terminal = true
 is_of_words problem.NoDataFile = true
 is_of_words problem.OneFile = true

@@ -311,13 +311,16 @@ fn use_table_in<U: TableUse>(host: &Host<'_>, bytes: &[u8], table_use: &U) -> Re
 }
 
 impl TableUse for Viewing<'_> {
-    /// The resources are shown to people.
+    /// The resources are shown to people. Those of several that can't be shown so are a problem after the others.
     fn done(&self, host: &Host<'_>, _bytes: &[u8], table: &Table<'_>) -> Result<u8, Problem> {
         let sight = sight_of(host.alloc(), &self.view, table.rows.as_slice()).map_err(
             Problem::View,
         )?;
         write_sight(host, &sight, self.output)?;
-        Ok(DONE)
+        if sight.untold.is_empty() {
+            return Ok(DONE);
+        }
+        Err(Problem::Untold(sight.untold))
     }
 }
 

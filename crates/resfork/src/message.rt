@@ -16,7 +16,7 @@ use fork_list::KindText;
 use fork_list::letters::Letters;
 use fork_report::Refusal;
 use fork_rez::fault::RezFault;
-use fork_view::{NotShown, NotUnpacked};
+use fork_view::{NotShown, NotUnpacked, Untold};
 use fork_words::INPUT;
 use fork_words::asked::NotAsked;
 use mac_base::error::HostFull;
@@ -73,6 +73,9 @@ pub enum Problem {
     /// Its resources can't be shown so.
     #[error("{0}")]
     View(NotShown),
+    /// Some of its resources can't be shown so; the others are.
+    #[error("not all of these resources can be shown so")]
+    Untold(Vec<Untold>),
     /// Not all of its resources are written to a folder.
     #[error("{0}")]
     Unpack(NotUnpacked),
@@ -193,9 +196,10 @@ impl Problem {
             Problem::Terminal
             | Problem::NoDataFile
             | Problem::OneFile
-            | Problem::View(NotShown::NoPicture)
+            | Problem::View(NotShown::NoPicture(_))
             | Problem::View(NotShown::NoText)
-            | Problem::View(NotShown::ManyPictures) => BAD_WORDS,
+            | Problem::View(NotShown::ManyPictures)
+            | Problem::Untold(_) => BAD_WORDS,
             Problem::Pack(PackFault::HostFull) => CANT_GO_ON,
             Problem::Rez(RezFault::Refused(_))
             | Problem::Pack(_)
@@ -231,6 +235,7 @@ pub fn tell_problem(host: &Host<'_>, file: &str, problem: &Problem) {
         ) => tell_damaged(host, file, told),
         Problem::Edit(fork_change::Refusal::Missing(what)) => tell_missing(host, file, *what),
         Problem::NoKind(kind) => tell_no_kind(host, file, *kind),
+        Problem::Untold(others) => tell_untold(host, file, others.as_slice()),
         Problem::Output { path, .. } => tell_words(host, path.as_str(), problem),
         Problem::Container(path) => tell_words(host, path.as_str(), problem),
         problem => tell_words(host, file, problem),
@@ -282,6 +287,18 @@ fn tell_no_kind(host: &Host<'_>, file: &str, kind: ResType) -> io::Result<()> {
     let file = FileName(file);
     let kind = KindText::new(Letters::Roman, kind);
     eprintln!(host.rt; "{file}: there is no resource of the type {kind}")
+}
+
+/// Says why resources of the file of this name aren't shown with the others.
+fn tell_untold(host: &Host<'_>, file: &str, others: &[Untold]) -> io::Result<()> {
+    let file = FileName(file);
+    for other in others {
+        let kind = KindText::new(Letters::Roman, other.kind);
+        let id = other.id;
+        let why = other.why;
+        eprintln!(host.rt; "{file}: {kind} {id}: {why}")?;
+    }
+    Ok(())
 }
 
 /// Says that the file of this name has no resource of this type and id.

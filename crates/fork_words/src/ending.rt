@@ -1,0 +1,96 @@
+//! The form of what `show` writes: the one that `--as` names, or that the ending of a file's name asks for.
+
+ghost use Rattle.std.specs.Prelude.{◌≡◌, false, IfErr, IfOk, option_map};
+ghost use Rattle.fork_words.specs.Endings.{IsEndingFault, IsFormFault, IsViewForm, form_by_ending, form_named, has_ending, is_other_picture, is_sound, is_unmade};
+
+use crate::asked::NotAsked;
+use crate::fault::Fault;
+use fork_view::ShowAs;
+use std::alloc::Global;
+
+/// The form that `--as` names.
+fn form_named(word: &str) -> Option<ShowAs>
+    ensures { result ≡ form_named word.now }
+{
+    match word.as_bytes() {
+        b"text" => Some(ShowAs::Text),
+        b"hex" => Some(ShowAs::Hex),
+        b"png" => Some(ShowAs::Png),
+        _ => None,
+    }
+}
+
+/// Whether a name ends so.
+fn has_ending(name: &[u8], ending: &[u8]) -> bool
+    ensures { result ≡ has_ending name.now ending.now }
+{
+    name.ends_with(ending)
+}
+
+/// Whether a name ends as pictures do that aren't made.
+fn is_other_picture(name: &[u8]) -> bool
+    ensures { result ≡ is_other_picture name.now }
+{
+    has_ending(name, b".gif")
+        || has_ending(name, b".jpg")
+        || has_ending(name, b".jpeg")
+        || has_ending(name, b".bmp")
+        || has_ending(name, b".tif")
+        || has_ending(name, b".tiff")
+        || has_ending(name, b".ico")
+        || has_ending(name, b".icns")
+        || has_ending(name, b".webp")
+        || has_ending(name, b".svg")
+        || has_ending(name, b".pict")
+        || has_ending(name, b".pdf")
+}
+
+/// Whether a name ends as sounds do.
+fn is_sound(name: &[u8]) -> bool
+    ensures { result ≡ is_sound name.now }
+{
+    has_ending(name, b".wav")
+        || has_ending(name, b".aif")
+        || has_ending(name, b".aiff")
+        || has_ending(name, b".aifc")
+        || has_ending(name, b".mp3")
+        || has_ending(name, b".au")
+}
+
+/// The form that the ending of a name asks for, in capital or small letters, if it asks for one. That of a picture or a
+/// sound which isn't made is refused.
+fn form_by_ending(alloc: Global, name: &str) -> Result<Option<ShowAs>, NotAsked>
+    ensures form { IfOk result (λ form. form ≡ form_by_ending name.now) }
+    ensures made { IfOk result (λ _. is_unmade name.now ≡ false) }
+    ensures refused { IfErr result (IsEndingFault name.now) }
+{
+    let small = name.as_bytes().to_ascii_lowercase(alloc)?;
+    let name = small.as_slice();
+    if is_other_picture(name) || is_sound(name) {
+        return Err(NotAsked::Fault(Fault::NoEnding));
+    }
+    if has_ending(name, b".png") {
+        Ok(Some(ShowAs::Png))
+    } else {
+        Ok(None)
+    }
+}
+
+/// The form of what is shown: the one that `--as` names, or else the one that the ending of the output's name asks for.
+pub(crate) fn view_form(
+    alloc: Global,
+    word: Option<&str>,
+    output: Option<&str>,
+) -> Result<Option<ShowAs>, NotAsked>
+    ensures form { IfOk result (IsViewForm (option_map (λ word. word.now) word) (option_map (λ name. name.now) output)) }
+    ensures refused { IfErr result (IsFormFault (option_map (λ word. word.now) word) (option_map (λ name. name.now) output)) }
+{
+    match (word, output) {
+        (Some(word), _) => match form_named(word) {
+            Some(form) => Ok(Some(form)),
+            None => Err(NotAsked::Fault(Fault::NoForm)),
+        },
+        (None, Some(output)) => form_by_ending(alloc, output),
+        (None, None) => Ok(None),
+    }
+}
