@@ -122,12 +122,7 @@ pub(crate) fn opened<'a>(alloc: Global, bytes: &'a [u8]) -> Result<OldFile<'a>, 
 }
 
 /// Adds what a fork holds, in lines.
-fn push_fork(
-    alloc: Global,
-    text: &mut String,
-    digests: Digests,
-    fork: &[u8],
-) -> Result<(), Failure>
+fn push_fork(alloc: Global, text: &mut String, digests: Digests, fork: &[u8]) -> Result<(), Failure>
     ensures { IfErr result (IsForkCause fork.now) }
 {
     let table = read_table(alloc, fork).map_err(Failure::Fork)?;
@@ -141,7 +136,10 @@ fn push_table(alloc: Global, text: &mut String, table: &Table<'_>) -> Result<(),
     let rows = table.rows.as_slice();
     let count = rows.len();
     let types = types_listing(alloc, Letters::Roman, &[], rows)?;
-    write!(text, "map attributes: {attributes}\nresources: {count}\n{types}")
+    write!(
+        text,
+        "map attributes: {attributes}\nresources: {count}\n{types}"
+    )
 }
 
 /// What a file is, in lines: what is said of it, and what its resource fork holds.

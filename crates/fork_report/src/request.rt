@@ -20,7 +20,10 @@ pub enum Form {
 #[derive(Drop)]
 pub enum Report {
     /// What each is, and the digests of its forks.
-    Info { form: Form, digests: Digests },
+    Info {
+        form: Form,
+        digests: Digests,
+    },
     /// All faults of its fork.
     Check(Form),
     /// A list of its resources as JSON, those of these types, or all where none are named.

@@ -98,19 +98,15 @@ fn write_lines(
     if lines.is_empty() {
         return Ok(());
     }
-    let text = match titles {
-        Titles::BeforeLines => {
-            let front = format!(in alloc; "{name} ")?;
-            each_line(alloc, front.as_bytes(), lines)?
-        }
-        Titles::BeforeFiles => {
-            if files.len() > 1 {
-                write_text(host, &format!(in alloc; "{name}:\n")?)?;
-            }
-            Vec::from_slice(alloc, lines)?
-        }
-    };
-    host.output().write_all(&text).map_err(Problem::Print)
+    if titles == Titles::BeforeLines {
+        let front = format!(in alloc; "{name} ")?;
+        let text = each_line(alloc, front.as_bytes(), lines)?;
+        return host.output().write_all(&text).map_err(Problem::Print);
+    }
+    if files.len() > 1 {
+        write_text(host, &format!(in alloc; "{name}:\n")?)?;
+    }
+    host.output().write_all(lines).map_err(Problem::Print)
 }
 
 /// Shows something of each of these files, and says why some aren't shown. The result is the highest status of them.
