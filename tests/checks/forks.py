@@ -14,7 +14,7 @@ import subprocess
 import tempfile
 
 from checks.fork_questions import Difference, expect, opening_is_refused, questions
-from model.fork import FORMAT, MESSAGES, MOST_BYTES, NoFork, Row, column, listing, open_code, quoted, read_fork, types
+from model.fork import FORMAT, MESSAGES, MOST_BYTES, NoFork, Row, column, listing, open_code, quoted, read_fork, told_of, types
 
 # the forks
 
@@ -323,7 +323,7 @@ def try_fork(program, path, fork, choices):
     try:
         rows = read_fork(fork, FORMAT) if fork else []
     except NoFork as fault:
-        told = MESSAGES[fault.args[0]]
+        told = told_of(fault.args[0], fork)
         compare("ls", run(program, ["ls", path]), 3, b"", told)
         compare("get", run(program, ["get", path, "TEXT", "128"]), 3, b"", told)
         return fault.args[0]

@@ -31,7 +31,7 @@ use Rattle.fork_report.specs.declared.refusal.Refusal.{Refusal}
 use Rattle.fork_report.specs.declared.refusal.Refusal.TheVariants as refusal
 use Rattle.fork_report.specs.Damage.{IsDamageOf, IsDamaged, is_readable, tally_of}
 use Rattle.fork_report.specs.Inside.{IsInside, archive_inside}
-use Rattle.fork_report.specs.Refused.{IsCause, IsForkCause, IsTakenForFork, IsToldDamaged, IsToldOf, IsToldOfFork}
+use Rattle.fork_report.specs.Refused.{IsCause, IsForkCause, IsNoFork, IsTakenForFork, IsToldDamaged, IsToldOf, IsToldOfFork, IsToldUnknown, begins_as_fork}
 use Rattle.fork_report.specs.Reported.{IsTaken, TellsLeft}
 
 refused : (file fork : List ℕ) (why : FileFault) → IsForkIn file fork → old_file file ≡ Err why → ⊥
@@ -51,7 +51,24 @@ told_damaged file fault damage (refusal.Archive archive) has taken is = absurd i
 told_damaged file fault damage (refusal.Inside archive) has taken is = absurd is
 told_damaged file fault damage refusal.Nothing has taken is = absurd is
 told_damaged file fault damage refusal.TooMuch has taken is = absurd is
-told_damaged file fault damage refusal.Unknown has taken is = absurd is
+told_damaged file fault damage (refusal.Unknown told) has taken is = absurd is
+told_damaged file fault damage refusal.NoHeader has taken is = absurd is
+
+-- that nothing is known of a file
+pub told_unknown : (file : List ℕ) (fault : ForkFault) (told : Refusal) → IsNoFork file → begins_as_fork file ≡ true → IsToldUnknown told → IsToldOfFork file fault told
+told_unknown file fault (refusal.Unknown text) none begins is = (none, begins)
+told_unknown file fault (refusal.Show failure.HostFull) none begins is = tt
+told_unknown file fault (refusal.Show (failure.NoFork why)) none begins is = absurd is
+told_unknown file fault (refusal.Show (failure.Fork why)) none begins is = absurd is
+told_unknown file fault (refusal.Show failure.NotFound) none begins is = absurd is
+told_unknown file fault (refusal.Show (failure.Write why)) none begins is = absurd is
+told_unknown file fault (refusal.Container kept why) none begins is = absurd is
+told_unknown file fault (refusal.Archive archive) none begins is = absurd is
+told_unknown file fault (refusal.Inside archive) none begins is = absurd is
+told_unknown file fault (refusal.Damaged text readable) none begins is = absurd is
+told_unknown file fault refusal.Nothing none begins is = absurd is
+told_unknown file fault refusal.TooMuch none begins is = absurd is
+told_unknown file fault refusal.NoHeader none begins is = absurd is
 
 -- a file has a fork or lacks one, unless the host has no memory for that of a text
 pub apart : (file fork : List ℕ) (fault : NoFork) → kind_of file ≢ BinHex → IsForkIn file fork → IsNoForkIn file fault → ⊥

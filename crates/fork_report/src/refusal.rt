@@ -1,6 +1,7 @@
 //! Why nothing is shown of a file's fork.
 
-ghost use Rattle.fork_report.specs.Refused.{IsToldDamaged, IsToldOf, IsToldOfFork};
+ghost use Rattle.std.specs.Prelude.{◌≡◌};
+ghost use Rattle.fork_report.specs.Refused.{IsToldDamaged, IsToldUnknown, IsToldOf, IsToldOfFork, begins_as_fork};
 
 use crate::damage::Damage;
 use crate::inside::archive_inside;
@@ -44,8 +45,22 @@ pub enum Refusal {
     #[error("more can be read than one fork holds, 16777216 bytes of resources, and a map whose offsets have two bytes (5,458 resources without names): nothing is written; resfork salvage --list shows what there is")]
     TooMuch,
     /// It is nothing that is known.
+    #[error("neither a resource fork nor a file that has one in it: {0}")]
+    Unknown(String),
+    /// It is nothing that is known, and doesn't begin as a fork does.
     #[error("neither a resource fork nor a file that has one in it")]
-    Unknown,
+    NoHeader,
+}
+
+/// How many bytes the header of a fork has.
+const HEADER_LENGTH: usize = 16;
+
+/// Whether a file begins as a fork does: a byte of its header is zero, as none of a text is, or it ends within the
+/// header.
+fn begins_as_fork(file: &[u8]) -> bool
+    ensures { result ≡ begins_as_fork file.now }
+{
+    file.len() < HEADER_LENGTH || file[..HEADER_LENGTH].contains(&0)
 }
 
 impl Refusal {
@@ -108,7 +123,18 @@ impl Refusal {
             FileKind::Container(_) | FileKind::BinHex => Refusal::damaged(alloc, damage),
             FileKind::Archive(archive) => Refusal::Archive(archive),
             FileKind::Unknown if damage.is_of_fork() => Refusal::damaged(alloc, damage),
-            FileKind::Unknown => Refusal::Unknown,
+            FileKind::Unknown if !begins_as_fork(file) => Refusal::NoHeader,
+            FileKind::Unknown => Refusal::unknown(alloc, damage),
+        }
+    }
+
+    /// That nothing is known of a file, and what of a fork it lacks.
+    fn unknown(alloc: Global, damage: Damage) -> Refusal
+        ensures { IsToldUnknown result }
+    {
+        match format!(in alloc; "{damage}") {
+            Ok(told) => Refusal::Unknown(told),
+            Err(_) => Refusal::Show(Failure::HostFull),
         }
     }
 
