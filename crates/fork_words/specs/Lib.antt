@@ -2,3 +2,4 @@ pub mod Inputs
 pub mod Kinds
 pub mod Asks
 pub mod Sizes
+pub mod Places

@@ -19,6 +19,7 @@ is_of_resource (problem.Edit (edit.Missing what)) = true
 is_of_resource (problem.Edit edit.Taken) = true
 is_of_resource (problem.NoKind kind) = true
 is_of_resource problem.Twice = true
+is_of_resource problem.IsThere = true
 is_of_resource other = false
 
 -- the words of the command line are bad, or bytes would go to a terminal
