@@ -18,7 +18,7 @@ from checks.fork_questions import Difference
 from checks.forks import Choices, compare, operand
 from checks.kept import DAMAGED, KEPT, write
 from checks.shown import fork_of, must
-from model.change import Missing, Taken, copied, place, put, remove, rest, set_row, table_of
+from model.change import Missing, Taken, changed, copied, place, put, remove, rest, set_row, table_of
 from model.container import resource_fork
 from model.fork import WORDS, NoFork, Row, column, quoted
 from places import TOP
@@ -61,6 +61,22 @@ LINES = [
     (["pack", "NO_SUCH_FOLDER", "OUT"], 4, "NO_SUCH_FOLDER/resources.json"),
     (["rez", "FILE", "-o", "OUT"], 3, "line 1"),
     (["rez", "FILE"], 2, "--output"),
+    (["pack", "NO_SUCH_FOLDER"], 2, "--into FILE"),
+    (["rez", "TEXT", "-o", "OUT", "--into", "FILE"], 2, "cannot be used with"),
+    (["pack", "NO_SUCH_FOLDER", "OUT", "--into", "FILE"], 2, "cannot be used with"),
+    (["pack", "NO_SUCH_FOLDER", "--like", "FILE", "--into", "FILE"], 2, "cannot be used with"),
+    (["rez", "TEXT", "--force", "--into", "FILE"], 2, "cannot be used with"),
+    (["rez", "TEXT", "--replace", "--skip", "--into", "FILE"], 2, "cannot be used with"),
+    (["rez", "TEXT", "-o", "OUT", "--backup"], 2, "cannot be used with"),
+    (["rez", "TEXT", "-o", "OUT", "--replace"], 2, "go with --into"),
+    (["pack", "NO_SUCH_FOLDER", "OUT", "--skip"], 2, "go with --into"),
+    (["rez", "TEXT", "--into", "-"], 2, "--into names a file"),
+    (["rez", "TEXT", "--into", "FILE"], 1, "FILE: there is such a resource already: --replace"),
+    (["rez", "TEXT", "--into", "NO_SUCH_FILE"], 4, "NO_SUCH_FILE"),
+    (["rez", "TEXT", "--into", "DAMAGED"], 3, "DAMAGED: "),
+    (["rez", "DOUBLED", "--into", "FILE", "--replace"], 1, "one type and id"),
+    (["rez", "TEXT", "-o", "DAMAGED"], 4, "DAMAGED: it is there, and no resource fork that can be read"),
+    (["rez", "TEXT", "-n", "-o", "DAMAGED"], 4, "DAMAGED: it is there, and no resource fork that can be read"),
     (["diff", "FILE", "DAMAGED"], 3, "DAMAGED: "),
 ]
 
@@ -228,6 +244,42 @@ def a_copy(rows, choices, other, from_path):
     return Case(words, b"", lambda rows: copied(rows, some, taken))
 
 
+def lacking(rows, others):
+    """How many of these rows have a type and an id that none of the others has."""
+    return sum(1 for row in rows if place(others, row[0], row[1]) is None)
+
+
+def source_of(program, folder, path):
+    """A text and a folder of the resources of a file, each with the command that reads it."""
+    text, out = os.path.join(folder, "text.r"), os.path.join(folder, "unpacked")
+    shutil.rmtree(out, ignore_errors=True)
+    write(text, run(program, ["derez", path])[1])
+    compare("unpack", run(program, ["unpack", path, out]), 0, b"", "")
+    return ["rez", text], ["pack", out]
+
+
+def an_into(choices, other, sources):
+    """Resources of a text or of a folder that are put into a file."""
+    taken = choices.choice([None, "replace", "skip"])
+    words = [*choices.choice(sources), "--into", "FILE", *([f"--{taken}"] if taken else [])]
+    return Case(words, b"", lambda rows: copied(rows, other, taken))
+
+
+def try_lost(program, folder, fork, rows, other, sources):
+    """A file of other resources takes the place of a fork: where some would be lost, only by force."""
+    path, count = os.path.join(folder, "lost"), lacking(rows, other)
+    for words in sources:
+        words = [*words, *(["-o"] if words[0] == "rez" else []), path]
+        write(path, fork)
+        before = state(path)
+        if count:
+            compare(f"{words[0]} over others", run(program, words), 4, b"", f"{path}: it is there, and has resources that the new file lacks, {count} of them: --into FILE")
+            must(state(path) == before, f"{words[0]}: a file that would lose resources is touched")
+            words.append("--force")
+        compare(f"{words[0]} over others", run(program, [*words, "-q"]), 0, b"", "")
+        must(table_of(read(path))[0] == other, f"{words[0]} over others: other resources are read")
+
+
 def state(path):
     found = os.stat(path)
     return read(path), found.st_mtime_ns, found.st_ino
@@ -331,7 +383,10 @@ def try_fork(program, folder, fork, number, seen):
     write(path, old)
     try_diff(program, path, from_path, rows, other)
     try_back(program, folder, path, old, (rows, extra))
-    for case in (a_put(rows, choices), a_remove(rows, choices), a_set(rows, choices), a_copy(rows, choices, other, from_path)):
+    sources = source_of(program, folder, from_path)
+    try_lost(program, folder, fork, rows, other, sources)
+    cases = [a_put(rows, choices), a_remove(rows, choices), a_set(rows, choices), a_copy(rows, choices, other, from_path)]
+    for case in [*cases, an_into(choices, other, sources)]:
         try:
             result = try_case(program, path, old, case, rows, extra)
         except Difference as difference:
@@ -347,7 +402,8 @@ def try_lines(program, folder):
     write(damaged, DAMAGED)
     before = state(path)
     names = {"FILE": path, "DAMAGED": damaged, "OUT": out}
-    for name, bytes_of_it in (("TWO", fork_of([Row(*row) for row in [ROWS[0], ROWS[1], *ROWS[1:]]])), ("TEXT", run(program, ["derez", path])[1]), ("SINGLE", KEPT[0][0](fork))):
+    text, two = run(program, ["derez", path])[1], fork_of([Row(*row) for row in [ROWS[0], ROWS[1], *ROWS[1:]]])
+    for name, bytes_of_it in (("TWO", two), ("TEXT", text), ("DOUBLED", run(program, ["derez", "-"], two)[1]), ("SINGLE", KEPT[0][0](fork))):
         names[name] = os.path.join(folder, name)
         write(names[name], bytes_of_it)
     for words, status, told in LINES:
@@ -362,6 +418,23 @@ def try_lines(program, folder):
     must(state(path) == before and table_of(read(out))[0] == after, "put -o: other resources are read, or FILE is touched")
     compare("put --backup -q", run(program, ["put", path, "TEXT", "128", "--backup", "-q"], b"Hello"), 0, b"", "")
     must(table_of(read(path))[0] == after and read(path + "~") == fork, "put --backup: other resources are read, or no FILE~")
+    some = run(program, ["derez", "-t", "TEXT", path])[1]
+    write(names["TEXT"], some)
+    before = state(path)
+    compare("rez of one type", run(program, ["rez", names["TEXT"], "--into", path, "--replace"]), 0, b"", "")
+    compare("rez of one type", run(program, ["rez", "-", "--into", path, "--skip"], some), 0, b"", "")
+    must(state(path) == before, "rez of one type: nothing changed, and the file is touched")
+    write(names["TEXT"], some.replace(b'"Read me"', b'"Me too"'))
+    renamed = [changed(row, name=b"Me too") if row[2] == b"Read me" else row for row in after]
+    old = read(path)
+    compare("rez of one type", run(program, ["rez", names["TEXT"], "--into", path, "--replace", "--backup"]), 0, diff(after, renamed).encode(), "")
+    must(table_of(read(path))[0] == renamed and read(path + "~") == old, "rez of one type: other resources are read, or no FILE~")
+    empty = os.path.join(folder, "empty")
+    write(empty, b"")
+    compare("rez over a file of no bytes", run(program, ["rez", names["TEXT"], "-q", "-o", empty]), 0, b"", "")
+    write(names["SINGLE"], KEPT[0][0](fork))
+    compare("rez --force", run(program, ["rez", names["TEXT"], "-q", "--force", "-o", names["SINGLE"]]), 0, b"", "")
+    must(table_of(read(names["SINGLE"])) == table_of(read(empty)), "rez --force: other resources are read")
     new = os.path.join(folder, "new")
     compare("put --create", run(program, ["put", "--create", new, "TEXT", "1"], b"Hi"), 0, b"+ TEXT 1\n", "")
     must(table_of(read(new))[0] == [(b"TEXT", 1, None, 0, b"Hi")], "put --create: other resources are read")

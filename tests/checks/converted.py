@@ -2,7 +2,8 @@
 
 Files with random names, dates, comments and forks are written by tests/model/contents.py in AppleSingle, AppleDouble, MacBinary III and BinHex, and
 as a fork alone. Each is converted to each; the model reads what comes out. Nothing is lost without `--lossy`: what the container can't hold is
-named, and no file is written. A data fork goes to the file that `--data` names, and comes from there. Number: how many files.
+named, and no file is written. A data fork goes to the file that `--data` names, and comes from there. AppleDouble has its entries in the order in
+which a Macintosh writes them. Of a file that has no name the path gives one. Number: how many files.
 """
 import os
 import random
@@ -14,7 +15,7 @@ from checks.forks import Choices
 from checks.kept import write
 from checks.shown import must
 from model.change import table_of
-from model.contents import READERS, TO_2000, WRITERS, Contents, held, lost
+from model.contents import READERS, TO_2000, WRITERS, Contents, apple, as_copied, held, lost
 from model.fork import NoFork
 
 APART = ("raw", "appledouble")
@@ -53,7 +54,7 @@ def try_pair(program, folder, source, target, it):
     words = ["convert", "--to", target, old, new]
     wanted, data = it, None
     if source == "raw" and target in ("macbinary", "binhex"):
-        wanted = Contents(**{**vars(wanted), "name": b"Old Name"})
+        wanted = Contents(**{**vars(wanted), "name": b"Old Name.x"})
     if source in APART and target not in APART:
         data = b"data of its own"
         write(fork, data)
@@ -79,8 +80,33 @@ def try_pair(program, folder, source, target, it):
     made = read(new) if os.path.exists(new) else b""
     must((status, output, told) == (0, f"{new}: {len(made)} bytes\n".encode(), said), f"{status} {output!r} {told!r}")
     must(READERS[target](made) == held(target, wanted), f"{READERS[target](made)} and not {held(target, wanted)}")
+    if target == "appledouble":
+        must(made == as_copied(held(target, wanted)), "its entries are others, or in another order")
     if data is not None:
         must(read(fork) == data, "the data fork isn't in its file")
+
+
+# the last parts of paths, and the names that they give
+NAMES = [
+    ("._Photo.jpg", b"Photo.jpg"), ("Photo.jpg", b"Photo.jpg"), ("Game.rsrc", b"Game"), ("Game.RsRc", b"Game"), ("Game.rsr", b"Game"), ("GAME.RSR", b"GAME"), ("._Game.rsrc", b"Game"),
+    ("Game.rsrc.rsr", b"Game.rsrc"), ("Read Me", b"Read Me"), (".rsrc", b".rsrc"), ("._.RSR", b".RSR"), ("a.rsrcs", b"a.rsrcs"), ("arsrc", b"arsrc"), (".hidden", b".hidden"), ("v1.0", b"v1.0"),
+    ("Caf\u00e9.rsrc", b"Caf\x8e"), ("\u65e5\u672c.rsr", b"__"), ("._._twice", b"._twice"), ("x" * 63 + ".rsrc", b"x" * 63),
+]
+
+
+def try_names(program, folder):
+    """Converts files that have no name of their own: the path gives it."""
+    os.mkdir(os.path.join(folder, "a.rsrc"))
+    it, new = Contents(resource=Choices(1).fork()), os.path.join(folder, "named")
+    for last, name in NAMES:
+        path = os.path.join(folder, "a.rsrc", last)
+        for how, bytes_of_it in (("raw", it.resource), ("appledouble", apple(0x51607, it, [9, 2]))):
+            write(path, bytes_of_it)
+            status, _, told = run(program, ["convert", "-q", "--lossy", "--to", "macbinary", path, new])
+            must(status == 0 and READERS["macbinary"](read(new)).name == name, f"{how} at {last!r}: {status} {told!r} {read(new)[:70]!r}")
+            os.remove(new)
+        os.remove(path)
+    return len(NAMES)
 
 
 def try_words(program, folder):
@@ -113,6 +139,9 @@ def main(program, count=12):
     with tempfile.TemporaryDirectory() as folder:
         try:
             rows = try_words(program, folder)
+            what = "the names of paths"
+            rows += try_names(program, folder)
+            what = "the command lines"
             for number in range(1, 1 + count):
                 it = some_contents(number)
                 try:

@@ -192,7 +192,7 @@ def try_forks(program, room):
         for words in (["ls", path], ["ls", "--json", path], ["info", "--json", path], ["check", path], ["derez", path], ["diff", path, path]):
             must(spent(program, words, len(fork))[0] == 0, f"{words[0]} of a large fork fails")
         write(text, run(program, ["derez", path])[1])
-        compare("rez", spent(program, ["rez", "-q", text, "-o", path + ".made"], os.path.getsize(text)), 0, b"", "")
+        compare("rez", spent(program, ["rez", "-q", "--force", text, "-o", path + ".made"], os.path.getsize(text)), 0, b"", "")
 
 
 def try_types(program, room):

@@ -63,6 +63,9 @@ def commands(kind, ident):
     yield ["rez", "bad", "-o", "out"]
     yield ["pack", "--like", "bad", "folder", "out"]
     yield ["pack", "packed", "out"]
+    yield ["rez", "text", "--into", "bad", "--replace"]
+    yield ["rez", "-n", "text", "--into", "bad", "--skip"]
+    yield ["pack", "packed", "--into", "bad"]
     for to in CONTAINERS:
         yield ["convert", "--to", to, "bad", "out"]
         yield ["convert", "--to", to, "--lossy", "--data", "fork", "bad", "out"]
@@ -71,7 +74,7 @@ def commands(kind, ident):
 def made(words):
     """The names that a command may make, and those that it may change."""
     new = {"out"} & set(words) | ({"fork"} if "--data" in words else set())
-    is_in_place = words[0] in ("put", "rm", "set", "cp") and "-o" not in words and "-n" not in words
+    is_in_place = (words[0] in ("put", "rm", "set", "cp") and "-o" not in words or "--into" in words) and "-n" not in words
     return new | ({"bad~"} if "--backup" in words else set()), {"bad"} if is_in_place else set()
 
 

@@ -101,6 +101,12 @@ WRITERS = {
 }
 
 
+def as_copied(it):
+    """AppleDouble as a Macintosh's own copying writes it: what the Finder knows and the resource fork, and then what else says something."""
+    more = {3: it.name, 4: it.comment, 8: it.created or it.modified}
+    return apple(0x51607, it, [9, 2, *(ident for ident, says in more.items() if says)])
+
+
 # read
 
 
@@ -112,7 +118,7 @@ def of_apple(file):
         ident, start, length = struct.unpack(">III", file[at : at + 12])
         assert start + length <= len(file)
         parts.setdefault(ident, file[start : start + length])
-    dates = [0 if date == UNKNOWN else date + TO_2000 for date in struct.unpack(">ii", parts[8][:8])]
+    dates = [0 if date == UNKNOWN else date + TO_2000 for date in struct.unpack(">ii", parts.get(8, struct.pack(">ii", UNKNOWN, UNKNOWN))[:8])]
     finder = parts[9]
     return Contents(parts.get(3, b""), finder[:4], finder[4:8], struct.unpack(">H", finder[8:10])[0], *dates, parts.get(4, b""), parts.get(1, b""), parts.get(2, b""))
 

@@ -1,6 +1,6 @@
 -- Rows that are copied to others.
 use Rattle.std.specs.Prelude.{ℕ, ℤ, pos, zero, suc, ◌+◌, nat_lt, Bool, false, true, not, if◌then◌else◌, List, [], ◌∷◌, ◌++◌, bytes_eq, length, Option, None, Some}
-use Rattle.std.specs.List.{list_any}
+use Rattle.std.specs.List.{count_by, list_any}
 use Rattle.std.specs.Option.{option_and_then}
 use Rattle.fork_bytes.specs.Rows.{Row}
 use Rattle.fork_change.specs.declared.copying.Choice.{Choice}
@@ -59,3 +59,7 @@ copied_one how row rows = if is_there (id_of row) rows then collided how row row
 abbrev pub copied : Collision → List Row → List Row → Option (List Row)
 copied how [] rows = Some rows
 copied how (row ∷ others) rows = option_and_then (copied how others) (copied_one how row rows)
+
+-- how many of these rows have a type and an id that no row of others has
+abbrev pub lacking : List Row → List Row → ℕ
+lacking others rows = count_by (λ row. not (is_there (id_of row) others)) rows

@@ -1,11 +1,11 @@
-//! Choices that mean no row, or two of one type and id.
+//! Choices that mean no row, or two of one type and id; and rows that others lack.
 
 ghost use Rattle.std.specs.Prelude.{◌≡◌, [], IfOk, option_copied};
 ghost use Rattle.std.specs.List.{filter, find, list_any};
-ghost use Rattle.fork_change.specs.Copies.{is_chosen, is_meant, is_unmet, second_of};
+ghost use Rattle.fork_change.specs.Copies.{is_chosen, is_meant, is_unmet, lacking, second_of};
 
 use crate::copying::{Choice, is_chosen, is_meant};
-use crate::ids::{Ids, add_id, has_id};
+use crate::ids::{Ids, add_id, has_id, ids_of};
 use crate::putting::id_of;
 use fork_bytes::table::Row;
 use mac_base::error::HostFull;
@@ -54,4 +54,19 @@ pub fn second_of<'r, 'a>(
         }
     }
     Ok(None)
+}
+
+/// How many of these rows have a type and an id that none of the others has. The only error is that the host has no
+/// memory.
+pub fn lacking(alloc: Global, others: &[Row], rows: &[Row]) -> Result<usize, HostFull>
+    ensures { IfOk result (λ count. count ≡ lacking others.now rows.now) }
+{
+    let known = ids_of(alloc, others)?;
+    let mut count = 0;
+    for row in rows {
+        if !has_id(&known, &id_of(row)) {
+            count += 1;
+        }
+    }
+    Ok(count)
 }

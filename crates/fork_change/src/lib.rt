@@ -15,7 +15,7 @@ pub mod row;
 mod search;
 mod setting;
 
-pub use choosing::{second_of, unmet};
+pub use choosing::{lacking, second_of, unmet};
 pub use comparing::{Difference, Differences, compare, first_difference, is_same_table};
 pub use copying::{Choice, Collision, copy, same_table};
 pub use laws::change_laws;

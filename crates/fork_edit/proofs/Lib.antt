@@ -3,4 +3,5 @@ mod Comes
 pub mod Entries
 mod Lost
 mod Refusing
+mod PathNames
 pub mod Alike

@@ -4,3 +4,5 @@ pub mod Edits
 pub mod Extras
 pub mod Faults
 pub mod Files
+pub mod PathNames
+pub mod Replaced

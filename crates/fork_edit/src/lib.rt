@@ -8,3 +8,5 @@ pub mod difference;
 pub mod edit;
 pub mod extra;
 pub mod file;
+pub mod path_name;
+pub mod replaced;

@@ -3,3 +3,4 @@ pub mod Kinds
 pub mod Asks
 pub mod Sizes
 pub mod Endings
+pub mod Places

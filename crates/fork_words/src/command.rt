@@ -31,6 +31,8 @@ Examples:
                                        resources of another file, too
   resfork diff Old.rsrc Game.rsrc      what differs
   resfork derez Game.rsrc > Game.r     as a text; resfork rez Game.r -o New.rsrc
+  resfork rez Some.r --into Game.rsrc --replace
+                                       the resources of a text, and the file's others
   resfork convert Game.bin Game.hqx --to binhex --lossy
                                        in another container
 
@@ -174,7 +176,7 @@ const COMMANDS: &[CommandText] = &[
         name: "pack",
         about: "Writes a fork of what unpack wrote",
         long_about: Some(
-            "Writes a fork of the files in a folder, of which DIR/resources.json says what they are. unpack writes both",
+            "Writes a fork of the files in a folder, of which DIR/resources.json says what they are. unpack writes both. --into FILE puts their resources into a file that is there. Where a type and an id are there already, nothing is written, unless --replace or --skip is given",
         ),
     },
     CommandText {
@@ -185,7 +187,9 @@ const COMMANDS: &[CommandText] = &[
     CommandText {
         name: "rez",
         about: "Writes a fork of a text that derez wrote",
-        long_about: None,
+        long_about: Some(
+            "Writes a fork of a text that derez wrote. --into FILE puts its resources into a file that is there. Where a type and an id are there already, nothing is written, unless --replace or --skip is given",
+        ),
     },
     CommandText {
         name: "convert",
@@ -261,11 +265,17 @@ const WORDS: &[Word] = &[
         "Makes a new raw fork where there is no FILE"),
     word!("cp", "replace", Form::Long("replace"), Values::Flag, rival: Some("renumber");
         "Takes the place of a resource that is there"),
-    word!("cp", "skip", Form::Long("skip"), Values::Flag, rival: Some("replace");
+    word!("cp" "pack" "rez", "skip", Form::Long("skip"), Values::Flag, rival: Some("replace");
         "Leaves out a resource that is there"),
+    word!("pack" "rez", "replace", Form::Long("replace"), Values::Flag;
+        "Takes the place of a resource that is there"),
     word!("cp", "renumber", Form::Long("renumber"), Values::Flag, rival: Some("skip");
         "Gives a resource whose id is taken the lowest id from 128 on that is free"),
-    word!("pack", "like", Form::Long("like"), Values::One("FILE");
+    word!("pack" "rez", "into", Form::Long("into"), Values::One("FILE"), rival: Some("output");
+        "The file that is there into which the resources are put, in place of OUT; its others stay"),
+    word!("pack" "rez", "force", Form::Long("force"), Values::Flag, rival: Some("into");
+        "Replaces an OUT that is there, though resources or other parts of it are lost"),
+    word!("pack", "like", Form::Long("like"), Values::One("FILE"), rival: Some("into");
         "Puts the fork in a file like this one, in its container"),
     word!("get", "output", Form::Short('o', "output"), Values::One("OUT");
         "The file that the bytes are written to, in place of the standard output"),
@@ -275,9 +285,9 @@ const WORDS: &[Word] = &[
         "The file that is written, in place of the standard output"),
     word!("put" "rm" "set" "cp", "output", Form::Short('o', "output"), Values::One("OUT");
         "The file that is written, in place of the one that is read"),
-    word!("rez", "output", Form::Short('o', "output"), Values::One("OUT"), is_required: true;
+    word!("rez", "output", Form::Short('o', "output"), Values::One("OUT");
         "The file that is written"),
-    word!("put" "rm" "set" "cp", "backup", Form::Long("backup"), Values::Flag, rival: Some("output");
+    word!("put" "rm" "set" "cp" "pack" "rez", "backup", Form::Long("backup"), Values::Flag, rival: Some("output");
         "Keeps the old file as FILE~"),
     word!("convert", "to", Form::Long("to"), Values::One("KIND"), is_required: true;
         "The container: raw, appledouble, applesingle, macbinary or binhex"),
@@ -317,7 +327,7 @@ const WORDS: &[Word] = &[
         "The folder: a new one, or an empty one"),
     word!("pack", "folder", Form::Operand, Values::One("DIR"), is_required: true;
         "The folder"),
-    word!("pack", "output", Form::Operand, Values::One("OUT"), is_required: true;
+    word!("pack", "output", Form::Operand, Values::One("OUT");
         "The file that is written"),
     word!("cp", "from", Form::Operand, Values::One("FROM"), is_required: true;
         "The file that resources are copied from"),

@@ -29,6 +29,15 @@ pub enum Fault {
     /// What is read from the standard input has no place.
     #[error("what is read from the standard input is written to the file that -o names")]
     NoOutput,
+    /// The file that is written isn't named, or two are.
+    #[error("name one file: a new one, which is written (rez: --output OUT), or by --into FILE one that is there, whose other resources stay")]
+    OnePlace,
+    /// The standard input can't be changed in its place.
+    #[error("--into names a file that is there, and the standard input is none")]
+    IntoInput,
+    /// An option goes with a file that is there, and a new one is named.
+    #[error("--backup, --replace and --skip go with --into FILE")]
+    NotInto,
     /// A name is too long.
     #[error("a name has at most 255 bytes")]
     LongName,

@@ -1,8 +1,11 @@
 //! The words of the commands that change files, and of those that compare them.
 
-ghost use Rattle.std.specs.Prelude.{◌≡◌, IfErr, IfOk, IfSome};
+ghost use Rattle.std.specs.Prelude.{◌≡◌, ℕ, List, codes, IfErr, IfOk, IfSome, None, Some, option_map};
+ghost use Rattle.std.specs.Borrow.{Bor};
+ghost use Rattle.clap.specs.Matches.{first_value, found_of};
 ghost use Rattle.fork_words.specs.Asks.{IsFault};
 ghost use Rattle.fork_words.specs.Inputs.{GoesElsewhere, IsInput, ReadsOnce};
+ghost use Rattle.fork_words.specs.Places.{IsCollision, IsFlag, IsNoPlace, IsPlace};
 
 use crate::INPUT;
 use crate::asked::{NotAsked, form_of, kind_named, kinds_named, name_named, word};
@@ -97,13 +100,36 @@ pub struct Derezzing<'a> {
     pub kinds: Vec<ResType>,
 }
 
-/// A folder of what was unpacked, of which a fork is written.
+/// Where the resources of a text or of a folder go.
+#[derive(Clone, Copy)]
+pub enum Place<'a> {
+    /// To a new file. Where one is there, its place is taken, but resources that the new one lacks are lost only where
+    /// that is forced.
+    New {
+        target: Target<'a>,
+        is_forced: bool,
+    },
+    /// Into a file that is there, whose others stay.
+    Into {
+        target: Target<'a>,
+        on_collision: Collision,
+    },
+}
+
+/// A text of resources, and where they go.
+#[derive(Clone, Copy)]
+pub struct Rezzing<'a> {
+    pub text: &'a str,
+    pub place: Place<'a>,
+}
+
+/// A folder of what was unpacked, and where its resources go.
 #[derive(Clone, Copy)]
 pub struct Packing<'a> {
     pub folder: &'a str,
     /// The file in whose container the fork is.
     pub like: Option<&'a str>,
-    pub target: Target<'a>,
+    pub place: Place<'a>,
 }
 
 /// What is to be done.
@@ -122,7 +148,7 @@ pub enum Work<'a> {
     /// To write resources as a text.
     Derez(Derezzing<'a>),
     /// To write a fork of a text.
-    Rez(Target<'a>),
+    Rez(Rezzing<'a>),
     /// To write a fork of what was unpacked to a folder.
     Pack(Packing<'a>),
     /// To write a file in another container.
@@ -145,8 +171,8 @@ pub(crate) fn work_of<'a>(
         "cp" => copy(alloc, matches),
         "diff" => Ok(compare(matches)?),
         "derez" => derez(alloc, matches),
-        "rez" => Ok(rez(matches)),
-        "pack" => Ok(pack(matches)),
+        "rez" => Ok(rez(matches)?),
+        "pack" => Ok(pack(matches)?),
         "convert" => convert(alloc, matches),
         _ => Err(NotAsked::Fault(Fault::NoCommand)),
     }
@@ -163,21 +189,68 @@ fn derez<'a>(alloc: Global, matches: &ArgMatches<'a>) -> Result<Work<'a>, NotAsk
 }
 
 /// What `rez` asks for.
-fn rez<'a>(matches: &ArgMatches<'a>) -> Work<'a>
-    ensures { ReadsOnce result }
+fn rez<'a>(matches: &ArgMatches<'a>) -> Result<Work<'a>, Fault>
+    ensures { IfOk result ReadsOnce }
 {
-    Work::Rez(target_of(matches, word(matches, "file")))
+    let text = word(matches, "file");
+    let place = place_of(matches, text)?;
+    Ok(Work::Rez(Rezzing { text, place }))
 }
 
 /// What `pack` asks for.
-fn pack<'a>(matches: &ArgMatches<'a>) -> Work<'a>
-    ensures { ReadsOnce result }
+fn pack<'a>(matches: &ArgMatches<'a>) -> Result<Work<'a>, Fault>
+    ensures { IfOk result ReadsOnce }
 {
     let folder = word(matches, "folder");
-    Work::Pack(Packing {
+    let place = place_of(matches, folder)?;
+    Ok(Work::Pack(Packing {
         folder,
         like: matches.get_str("like"),
-        target: target_of(matches, folder),
+        place,
+    }))
+}
+
+/// Where the resources of a text or of a folder go, by the words.
+fn place_of<'a>(matches: &ArgMatches<'a>, source: &'a str) -> Result<Place<'a>, Fault>
+    ensures place { IfOk result (IsPlace (found_of matches.now) source.entry) }
+    ensures refused { IfErr result (IsNoPlace (found_of matches.now)) }
+{
+    match (matches.get_str("into"), matches.get_str("output")) {
+        (Some(file), None) => place_in(matches, file),
+        (None, Some(_)) => new_place(matches, source),
+        _ => Err(Fault::OnePlace),
+    }
+}
+
+/// A file that is there, into which resources are put.
+fn place_in<'a>(matches: &ArgMatches<'a>, file: &'a str) -> Result<Place<'a>, Fault>
+    requires into { first_value (found_of matches.now) (codes "into") ≡ Some file.now }
+    requires alone { first_value (found_of matches.now) (codes "output") ≡ None }
+    ensures place { (source : Bor (List ℕ)) → IfOk result (IsPlace (found_of matches.now) source) }
+    ensures refused { IfErr result (IsNoPlace (found_of matches.now)) }
+{
+    if file == INPUT {
+        return Err(Fault::IntoInput);
+    }
+    Ok(Place::Into {
+        target: target_of(matches, file),
+        on_collision: collision_of(matches),
+    })
+}
+
+/// A new file of the resources of a text or a folder. What goes with a file that is there is refused.
+fn new_place<'a>(matches: &ArgMatches<'a>, source: &'a str) -> Result<Place<'a>, Fault>
+    requires { first_value (found_of matches.now) (codes "into") ≡ None }
+    ensures place { IfOk result (IsPlace (found_of matches.now) source.entry) }
+    ensures refused { IfErr result (IsNoPlace (found_of matches.now)) }
+{
+    let target = target_of(matches, source);
+    if target.keeps_old || !matches!(collision_of(matches), Collision::Refuse) {
+        return Err(Fault::NotInto);
+    }
+    Ok(Place::New {
+        target,
+        is_forced: matches.get_flag("force"),
     })
 }
 
@@ -210,7 +283,11 @@ fn changed_target<'a>(
 
 /// Where a file goes.
 fn target_of<'a>(matches: &ArgMatches<'a>, file: &'a str) -> Target<'a>
-    ensures { result.file ≡ file.entry }
+    ensures file { result.file ≡ file.entry }
+    ensures output { option_map (λ name. name.now) result.output ≡ first_value (found_of matches.now) (codes "output") }
+    ensures keeps_old { IsFlag (found_of matches.now) (codes "backup") result.keeps_old }
+    ensures is_dry { IsFlag (found_of matches.now) (codes "dry") result.is_dry }
+    ensures is_quiet { IsFlag (found_of matches.now) (codes "quiet") result.is_quiet }
 {
     Target {
         file,
@@ -441,7 +518,9 @@ fn choices_named(alloc: Global, words: &[&str]) -> Result<Vec<Choice>, NotAsked>
 }
 
 /// What becomes of a resource that is copied where its type and id are there.
-fn collision_of(matches: &ArgMatches<'_>) -> Collision {
+fn collision_of(matches: &ArgMatches<'_>) -> Collision
+    ensures { IsCollision (found_of matches.now) result }
+{
     if matches.get_flag("replace") {
         Collision::Replace
     } else if matches.get_flag("skip") {

@@ -10,7 +10,7 @@ not_not : (b : Bool) → not b ≡ false → b ≡ true
 not_not true is = refl
 not_not false is = absurd (cc is)
 
-neither : (a b : Bool) → (a || b) ≡ false → (a ≡ false) × (b ≡ false)
+pub neither : (a b : Bool) → (a || b) ≡ false → (a ≡ false) × (b ≡ false)
 neither true b none = absurd (cc none)
 neither false b none = (refl, none)
 
@@ -18,7 +18,7 @@ nothing : (xs : List ℕ) → not (length xs == 0) ≡ false → xs ≡ []
 nothing [] none = refl
 nothing (x ∷ xs) none = let zero_is = eqb-true (length (x ∷ xs)) 0 (not_not _ none) in absurd (omega arith)
 
-number_is : (x : ℕ) → not (x == 0) ≡ false → x ≡ 0
+pub number_is : (x : ℕ) → not (x == 0) ≡ false → x ≡ 0
 number_is x none = eqb-true x 0 (not_not _ none)
 
 zeros_are : (n : ℕ) (xs : List ℕ) → length xs ≡ n → says_something xs ≡ false → xs ≡ replicate n 0

@@ -19,5 +19,7 @@ pub mod HexRead
 pub mod Places
 pub mod ReadBinary
 pub mod ReadApple
+pub mod ReadDouble
+pub mod DoubleText
 pub mod ReadAgain
 pub mod Held

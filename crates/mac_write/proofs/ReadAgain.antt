@@ -23,7 +23,8 @@ use Rattle.mac_write.specs.Targets.{apple_date_refusal, apple_unwritten, is_appl
 use Rattle.mac_write.specs.Written.{IsReadAgain, IsReadAsText, held}
 use Rattle.mac_files.proofs.Known.{double, single}
 use Rattle.mac_write.proofs.HexRead.{IsHexFile, text_is}
-use Rattle.mac_write.proofs.ReadApple.{FitsApple, double_again, single_again}
+use Rattle.mac_write.proofs.ReadApple.{FitsApple, single_again}
+use Rattle.mac_write.proofs.ReadDouble.{double_again}
 use Rattle.mac_write.proofs.ReadBinary.{FitsHeader, binary_again}
 use Rattle.mac_write.proofs.Refused.{then_none, else_none, or_none}
 
@@ -152,7 +153,7 @@ again target.Raw file is none = (raw_known file.resource_fork, raw_again file.re
 again target.AppleDouble file is none = record { known = double (double_text file) refl (inr refl); whole = both.0; told = both.1 }
   where
     both : (apple_fault (double_text file) ≡ None) × (parts_of AppleDouble (double_text file) ≡ record file { data_fork = [] })
-    both = double_again file is (fits_apple file (86 + told_length file + length file.resource_fork) (or_none (parts_refusal file) _ none).1)
+    both = double_again file is (fits_apple file (length (double_text file)) (or_none (parts_refusal file) _ none).1)
 again target.AppleSingle file is none = record { known = single (single_text file) refl (inr refl); whole = both.0; told = both.1 }
   where
     both : (apple_fault (single_text file) ≡ None) × (parts_of AppleSingle (single_text file) ≡ file)

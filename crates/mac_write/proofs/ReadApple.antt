@@ -5,7 +5,7 @@ use Rattle.std.specs.Option.{option_or}
 use Rattle.std.proofs.lemmas.Bool.{cases_lt, cond-true, cond-false, eqb-false, eqb-true, le-ltb, lt-ltb, ltb-true, ne_eqb}
 use Rattle.std.proofs.lemmas.List.{append-nil}
 use Rattle.byteorder.specs.Endian.{big_bytes, big_from}
-use Rattle.mac_files.specs.declared.container.Container.TheVariants.{AppleDouble, AppleSingle}
+use Rattle.mac_files.specs.declared.container.Container.TheVariants.{AppleSingle}
 use Rattle.mac_files.specs.declared.contents.FinderInfo.{FinderInfo}
 use Rattle.mac_files.specs.declared.fault.Entry.{Entry}
 use Rattle.mac_files.specs.declared.fault.ContainerFault.{ContainerFault}
@@ -15,7 +15,7 @@ use Rattle.mac_files.specs.Apple.{dates_in, entries_of, entry_at, entry_count, f
 use Rattle.mac_files.specs.Faults.{apple_fault, header_fault, list_fault, version_fault}
 use Rattle.mac_files.specs.Parts.{has_bytes, lies_within}
 use Rattle.mac_write.specs.Parts.{IsFile, Parts, created_in, mac_date, modified_in, no_finder, parts_of, told_bytes}
-use Rattle.mac_write.specs.Targets.{apple_date, dates_text, double_text, finder_text, head, is_apple_date, place, single_text, told_length, told_places, told_text}
+use Rattle.mac_write.specs.Targets.{apple_date, dates_text, finder_text, head, is_apple_date, place, single_text, told_length, told_places, told_text}
 use Rattle.mac_write.proofs.BinaryRead.{lies}
 use Rattle.mac_write.proofs.Places.{next, number_there, part_there}
 use Rattle.mac_write.proofs.ReadBinary.{told_part}
@@ -54,10 +54,10 @@ date_known date false zero_is is =
     let both = split _ _ (or_second (date == 0) (nat_lt 882045952 date && nat_lt date 5177013248) zero_is is) in
     date_by date (eqb-false date 0 zero_is) (ltb-true 882045952 date both.0) (ltb-true date 5177013248 both.1)
 
-date_again : (date : ℕ) → is_apple_date date ≡ true → mac_date (apple_date date) ≡ date
+pub date_again : (date : ℕ) → is_apple_date date ≡ true → mac_date (apple_date date) ≡ date
 date_again date is = date_known date (date == 0) refl is
 
-date_small : (date : ℕ) → is_apple_date date ≡ true → apple_date date < 4294967296
+pub date_small : (date : ℕ) → is_apple_date date ≡ true → apple_date date < 4294967296
 date_small date is = by_zero (date == 0)
   where
     by_zero : (none : Bool) → (if none then 2147483648 else (date + 1265437696) % 4294967296) < 4294967296
@@ -66,7 +66,7 @@ date_small date is = by_zero (date == 0)
 
 -- What the bytes say of a file whose parts begin at a place: the entries of what is said, and others.
 
-abbrev entry : ℕ → ℕ → ℕ → ℕ → Entry
+abbrev pub entry : ℕ → ℕ → ℕ → ℕ → Entry
 entry at id offset count = record { at = at; id = id; part = record { offset = offset; length = count } }
 
 abbrev comment_at : ℕ → Parts → ℕ
@@ -92,7 +92,7 @@ record SaysTold (text : List ℕ) (file : Parts) (base : ℕ) : Type 0 where
   size : dates_at base file + 48 ≤ length text
 
 -- an entry of the list, by its bytes
-entry_there : (at id offset count : ℕ) (text rest : List ℕ) → drop at text ≡ place id offset count ++ rest
+pub entry_there : (at id offset count : ℕ) (text rest : List ℕ) → drop at text ≡ place id offset count ++ rest
     → id < 4294967296 → offset < 4294967296 → count < 4294967296 → entry_at text at ≡ entry at id offset count
 entry_there at id offset count text rest is a b c =
     let r2 = big_bytes 4 count ++ rest in let r1 = big_bytes 4 offset ++ r2 in
@@ -122,12 +122,12 @@ dates_told text file base says = rw (says.created, says.modified) refl
 none_first : (a b : Option ContainerFault) → a ≡ None → b ≡ None → option_or a b ≡ None
 none_first a b is also = ap (λ (o : Option ContainerFault). option_or o b) is ∙ also
 
-record HasEntries (text : List ℕ) (entries : List Entry) : Type 0 where
-  are : entries_of text ≡ entries
-  list : list_end text ≤ length text
-  inside : find (λ (e : Entry). not (lies_within (length text) e.part)) entries ≡ None
+pub record HasEntries (text : List ℕ) (entries : List Entry) : Type 0 where
+  pub are : entries_of text ≡ entries
+  pub list : list_end text ≤ length text
+  pub inside : find (λ (e : Entry). not (lies_within (length text) e.part)) entries ≡ None
 
-whole : (text : List ℕ) (entries : List Entry) → 26 ≤ length text → big_from 4 4 text ≡ 131072 → HasEntries text entries → apple_fault text ≡ None
+pub whole : (text : List ℕ) (entries : List Entry) → 26 ≤ length text → big_from 4 4 text ≡ 131072 → HasEntries text entries → apple_fault text ≡ None
 whole text entries long version has =
     none_first (header_fault 26 text) _ (cond-false _ (Some (EndsInHeader 26 (length text))) None (le-ltb (length text) 26 long))
     (none_first (version_fault text) _ (ap (λ (n : ℕ). if (n == 65536) || (n == 131072) then None else Some (UnknownVersion n)) version)
@@ -210,11 +210,11 @@ laid text file base rest is bytes created modified version size =
       after = d6;
     }
 
-abbrev parts : List ℕ → FinderInfo → ℕ → ℕ → List ℕ → List ℕ → List ℕ → Parts
+abbrev pub parts : List ℕ → FinderInfo → ℕ → ℕ → List ℕ → List ℕ → List ℕ → Parts
 parts n f a m c d r = record { name = n; finder = f; created = a; modified = m; comment = c; data_fork = d; resource_fork = r }
 
 -- the same fields, the same file
-fields_same : (n n' c c' d d' r r' : List ℕ) (f f' : FinderInfo) (a a' m m' : ℕ) → n ≡ n' → f ≡ f' → a ≡ a' → m ≡ m' → c ≡ c' → d ≡ d' → r ≡ r'
+pub fields_same : (n n' c c' d d' r r' : List ℕ) (f f' : FinderInfo) (a a' m m' : ℕ) → n ≡ n' → f ≡ f' → a ≡ a' → m ≡ m' → c ≡ c' → d ≡ d' → r ≡ r'
     → parts n f a m c d r ≡ parts n' f' a' m' c' d' r'
 fields_same n n' c c' d d' r r' f f' a a' m m' p q s t u v w = rw (p, q, s, t, u, v, w) refl
 
@@ -230,7 +230,7 @@ length-told file is =
     let k = is.kind_length in let c = is.creator_length in omega arith
 
 -- one entry more that lies within
-none_outside : (total : ℕ) (e : Entry) (entries : List Entry) → e.part.offset + e.part.length ≤ total
+pub none_outside : (total : ℕ) (e : Entry) (entries : List Entry) → e.part.offset + e.part.length ≤ total
     → find (λ (e : Entry). not (lies_within total e.part)) entries ≡ None
     → find (λ (e : Entry). not (lies_within total e.part)) (e ∷ entries) ≡ None
 none_outside total e entries inside rest =
@@ -267,50 +267,12 @@ told_there text rest file base others_there more is small others =
     (next_same _ _ _ _ (entry_there 50 8 (dates_at base file) 16 text (p9 ++ rest) d50 (omega arith) (omega arith) (omega arith))
     (next_same _ _ _ _ (entry_there 62 9 (dates_at base file + 16) 32 text rest d62 (omega arith) (omega arith) (omega arith)) others)))
 
--- AppleDouble.
+-- The numbers fit.
 
 pub record FitsApple (file : Parts) (count : ℕ) : Type 0 where
   pub created : is_apple_date file.created ≡ true
   pub modified : is_apple_date file.modified ≡ true
   pub small : count < 4294967296
-
-pub double_again : (file : Parts) → IsFile file → FitsApple file (86 + told_length file + length file.resource_fork)
-    → (apple_fault (double_text file) ≡ None) × (parts_of AppleDouble (double_text file) ≡ record file { data_fork = [] })
-double_again file is fits =
-    let text = double_text file in let r = length file.resource_fork in let at = 86 + told_length file in
-    let fork = file.resource_fork in
-    let front = head 7 5 ++ (told_places 86 file ++ place 2 at r) in
-    let total : length text ≡ 86 + length (told_text file ++ fork) = length-append front (told_text file ++ fork) in
-    let told_parts = length-append (told_text file) fork in
-    let told_size = length-told file is in
-    let small = fits.small in
-    let size : length text ≡ at + r = omega arith in
-    let lay : Laid text file 86 fork = laid text file 86 fork refl is fits.created fits.modified refl (omega arith) in
-    let more : List Entry = entry 74 2 at r ∷ [] in
-    let d74 : drop 74 text ≡ place 2 at r ++ (told_text file ++ fork) = refl in
-    let are : entries_of text ≡ told_entries 86 file more =
-    told_there text (place 2 at r ++ (told_text file ++ fork)) file 86 (entry_at text 74 ∷ []) more refl (omega arith)
-    (next_same _ _ _ _ (entry_there 74 2 at r text (told_text file ++ fork) d74 (omega arith) (omega arith) (omega arith)) refl) in
-    let inside : find (λ (e : Entry). not (lies_within (length text) e.part)) (told_entries 86 file more) ≡ None =
-    told_inside (length text) file 86 more (omega arith) (none_outside (length text) (entry 74 2 at r) [] (omega arith) refl) in
-    let has : HasEntries text (told_entries 86 file more) = record { are = are; list = (let long : 86 ≤ length text = omega arith in long); inside = inside } in
-    let there : take r (drop at text) ≡ fork = part_there at r text fork [] (lay.after ∙ sym (append-nil fork)) refl in
-    let name = name_told text file 86 more lay.says are in
-    let comment = comment_told text file 86 more lay.says are in
-    let finder = finder_is text file 86 more lay.says are in
-    let dates = dates_are text file 86 more lay.says are in
-    let resource = fork_told 2 74 at text fork (part_by 2 text (told_entries 86 file more) (record { offset = at; length = r }) are refl) there in
-    let forks = ap (λ (o : Option Part). told_bytes o text) (none_by 1 text (told_entries 86 file more) are refl) in
-    let created = date_again file.created fits.created in let modified = date_again file.modified fits.modified in (
-      whole text (told_entries 86 file more) (omega arith) refl has,
-      fields_same _ _ _ _ _ _ _ _ _ _ _ _ _ _ name (ap (λ (o : Option FinderInfo). unwrap_or o no_finder) finder)
-          (ap (created_in AppleDouble) dates ∙ created) (ap (modified_in AppleDouble) dates ∙ modified) comment forks resource,
-    )
-  where
-    none_by : (id : ℕ) (text : List ℕ) (entries : List Entry) → entries_of text ≡ entries
-        → option_and_then (λ (e : Entry). has_bytes e.part) (find (λ (e : Entry). e.id == id) entries) ≡ None → part_of id text ≡ None
-    none_by id text entries is by =
-        ap (λ (es : List Entry). option_and_then (λ (e : Entry). has_bytes e.part) (find (λ (e : Entry). e.id == id) es)) is ∙ by
 
 -- AppleSingle.
 

@@ -28,7 +28,7 @@ within a n i k xs ys same low high =
     ap (λ (j : ℕ). take k (drop j xs)) place ∙ inside a n (i - a) k xs ys same (omega arith) ∙ sym (ap (λ (j : ℕ). take k (drop j ys)) place)
 
 -- a number of the same bytes is the same
-from_drop : (i j n : ℕ) (xs : List ℕ) → big_from (i + j) n xs ≡ big_from j n (drop i xs)
+pub from_drop : (i j n : ℕ) (xs : List ℕ) → big_from (i + j) n xs ≡ big_from j n (drop i xs)
 from_drop i j zero xs = refl
 from_drop i j (suc n) xs =
     let next : suc (i + j) ≡ i + suc j = omega arith in

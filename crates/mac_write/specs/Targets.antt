@@ -1,10 +1,11 @@
 -- A file as each container holds it.
 use Rattle.std.specs.Prelude.{ℕ, ◌+◌, ◌/◌, ◌%◌, ◌==◌, nat_lt, Bool, ◌&&◌, ◌||◌, if◌then◌else◌, List, [], ◌∷◌, ◌++◌, length, replicate, codes, slice_index, Option, None, Some}
-use Rattle.std.specs.List.{list_any}
+use Rattle.std.specs.List.{flat_map, list_any}
 use Rattle.std.specs.Option.{option_or}
 use Rattle.byteorder.specs.Endian.{big_bytes}
 use Rattle.mac_files.specs.Crc.{crc_of}
 use Rattle.mac_files.specs.MacBinary.{padded}
+use Rattle.mac_write.specs.declared.detail.Detail.TheVariants.{Dates}
 use Rattle.mac_write.specs.declared.refusal.Refusal.{Refusal}
 use Rattle.mac_write.specs.declared.refusal.Refusal.TheVariants.{CommentTooLong, DateOutside, NameCharacter, NameTooLong, NoName}
 use Rattle.mac_write.specs.declared.target.Target.{Target}
@@ -12,6 +13,7 @@ use Rattle.mac_write.specs.declared.target.Target.TheVariants.{Raw, AppleDouble,
 use Rattle.mac_write.specs.Apple.{length_refusal}
 use Rattle.mac_write.specs.Bytes.{filled}
 use Rattle.mac_write.specs.HexText.{hex_file, hex_text}
+use Rattle.mac_write.specs.Lost.{has}
 use Rattle.mac_write.specs.Parts.{Parts}
 
 -- AppleSingle and AppleDouble.
@@ -48,11 +50,34 @@ told_text file = file.name ++ (file.comment ++ (dates_text file ++ finder_text f
 abbrev pub told_length : Parts → ℕ
 told_length file = length file.name + length file.comment + 48
 
--- AppleDouble has five entries, AppleSingle one more, of the data fork
-abbrev pub double_text : Parts → List ℕ
-double_text file = head 7 5 ++ (told_places 86 file
-    ++ (place 2 (86 + told_length file) (length file.resource_fork) ++ (told_text file ++ file.resource_fork)))
+-- an entry of AppleDouble, its id and its bytes, where these say something
+abbrev pub said : ℕ → List ℕ → List (ℕ × List ℕ)
+said id [] = []
+said id (byte ∷ bytes) = (id, byte ∷ bytes) ∷ []
 
+-- the dates, where one is known
+abbrev pub known_dates : Parts → List ℕ
+known_dates file = if has Dates file then dates_text file else []
+
+-- the entries of AppleDouble: what the Finder knows and the resource fork, in the order in which a Macintosh writes
+-- them; then the name, the comment and the dates, where they say something
+abbrev pub double_entries : Parts → List (ℕ × List ℕ)
+double_entries file = (9, finder_text file) ∷ (2, file.resource_fork) ∷ (said 3 file.name ++ (said 4 file.comment ++ said 8 (known_dates file)))
+
+-- the list of entries whose bytes follow each other from a place on, and these bytes
+abbrev pub places : ℕ → List (ℕ × List ℕ) → List ℕ
+places at [] = []
+places at (entry ∷ entries) = place entry.0 at (length entry.1) ++ places (at + length entry.1) entries
+
+abbrev pub contents : List (ℕ × List ℕ) → List ℕ
+contents entries = flat_map (λ entry. entry.1) entries
+
+abbrev pub double_text : Parts → List ℕ
+double_text file =
+    let entries = double_entries file in let count = length entries in
+    head 7 count ++ (places (26 + 12 * count) entries ++ contents entries)
+
+-- AppleSingle has six entries
 abbrev pub single_text : Parts → List ℕ
 single_text file =
     let data_place = 98 + told_length file in
@@ -135,7 +160,7 @@ hex_unwritten file = option_or (name_length_refusal (length file.name))
 -- why the file isn't written
 abbrev pub unwritten : Target → Parts → Option Refusal
 unwritten Raw file = None
-unwritten AppleDouble file = option_or (parts_refusal file) (apple_unwritten (86 + told_length file + length file.resource_fork) file)
+unwritten AppleDouble file = option_or (parts_refusal file) (apple_unwritten (length (double_text file)) file)
 unwritten AppleSingle file = option_or (parts_refusal file)
     (apple_unwritten (98 + told_length file + length file.data_fork + length file.resource_fork) file)
 unwritten MacBinary file = binary_unwritten file

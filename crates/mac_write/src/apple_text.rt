@@ -1,14 +1,16 @@
 //! A file as AppleSingle or AppleDouble of version 2.
 
-ghost use Rattle.std.specs.Prelude.{◌≡◌, ◌<◌, ◌+◌, ◌^◌, ◌++◌, length, true, None, IfOk, OnOk};
+ghost use Rattle.std.specs.Prelude.{◌≡◌, ◌<◌, ◌≤◌, ◌+◌, ◌^◌, ◌++◌, ℕ, List, length, true, None, IfOk, OnOk};
 ghost use Rattle.std.specs.Result.{result_err};
 ghost use Rattle.mac_write.specs.Forks.{Refuses};
-ghost use Rattle.mac_write.specs.Parts.{view};
+ghost use Rattle.mac_write.specs.Parts.{IsFile, view};
 ghost use Rattle.mac_write.specs.Apple.{length_refusal};
 ghost use Rattle.mac_write.specs.declared.target.Target.TheVariants.{AppleDouble, AppleSingle};
-ghost use Rattle.mac_write.specs.Targets.{apple_date, apple_date_refusal, apple_unwritten, double_text, finder_text, dates_text, head, is_apple_date, parts_refusal, place, single_text, told_length, told_places, told_text, unwritten};
+ghost use Rattle.mac_write.specs.Targets.{apple_date, apple_date_refusal, apple_unwritten, contents, double_entries, double_text, known_dates, places, said, finder_text, dates_text, head, is_apple_date, parts_refusal, place, single_text, told_length, told_places, told_text, unwritten};
 
 use crate::bytes::{push_four, push_two, push_zeros};
+use crate::detail::{Detail, has};
+use crate::known::know_file;
 use crate::length::check_length;
 use crate::mac_file::MacFile;
 use crate::refusal::Refusal;
@@ -145,20 +147,114 @@ fn check_parts(file: &MacFile) -> Result<(), Refusal>
     check_length(file.resource_fork.len())
 }
 
+/// How many bytes the dates have in AppleDouble: none where no date is known.
+fn dates_length(file: &MacFile) -> usize
+    ensures length { result ≡ length (known_dates (view file.now)) }
+    ensures few { result ≤ 16 }
+{
+    if has(Detail::Dates, file) { 16 } else { 0 }
+}
+
+/// How many entries there are of so many bytes: none of no bytes.
+fn said_count(count: usize) -> usize
+    ensures entries { (id : ℕ) (bytes : List ℕ) → length bytes ≡ count → result ≡ length (said id bytes) }
+    ensures one { result ≤ 1 }
+{
+    if count == 0 { 0 } else { 1 }
+}
+
+/// How many entries AppleDouble has: what the Finder knows, the resource fork, and what else there is to say.
+fn double_count(file: &MacFile) -> usize
+    ensures entries { result ≡ length (double_entries (view file.now)) }
+    ensures few { result ≤ 5 }
+{
+    2 + said_count(file.name.len())
+        + said_count(file.comment.len())
+        + said_count(dates_length(file))
+}
+
+/// How many bytes the file has as AppleDouble.
+fn double_length(file: &MacFile) -> usize
+    requires name { length file.now.name.now < 2 ^ 32 }
+    requires comment { length file.now.comment.now < 2 ^ 32 }
+    requires resource_fork { length file.now.resource_fork.now < 2 ^ 32 }
+    requires known { IsFile (view file.now) }
+    ensures { result ≡ length (double_text (view file.now)) }
+{
+    let told = file.name.len() + file.comment.len() + dates_length(file);
+    26 + 12 * double_count(file) + 32 + file.resource_fork.len() + told
+}
+
+/// Adds an entry to the list, if it has bytes, and gives the place after them.
+fn push_place_of_some(
+    new: &mut Vec<u8>,
+    id: u32,
+    at: usize,
+    count: usize,
+) -> Result<usize, AllocError>
+    requires { at + count < 2 ^ 32 }
+    ensures place { (bytes : List ℕ) → length bytes ≡ count → OnOk result (new.new.items ≡ new.old.items ++ places at (said id bytes)) }
+    ensures next { IfOk result (λ next. next ≡ at + count) }
+{
+    if count == 0 {
+        return Ok(at);
+    }
+    push_place(new, id, at, count)
+}
+
+/// Adds the list of AppleDouble, whose entries have their bytes from a place on.
+fn push_double_places(new: &mut Vec<u8>, at: usize, file: &MacFile) -> Result<(), AllocError>
+    requires known { IsFile (view file.now) }
+    requires small { at + (32 + length file.now.resource_fork.now + length file.now.name.now + length file.now.comment.now + length (known_dates (view file.now))) < 2 ^ 32 }
+    ensures { OnOk result (new.new.items ≡ new.old.items ++ places at (double_entries (view file.now))) }
+{
+    let fork = push_place(new, 9, at, 32)?;
+    let name = push_place(new, 2, fork, file.resource_fork.len())?;
+    let comment = push_place_of_some(new, 3, name, file.name.len())?;
+    let dates = push_place_of_some(new, 4, comment, file.comment.len())?;
+    push_place_of_some(new, 8, dates, dates_length(file))?;
+    Ok(())
+}
+
+/// Adds the dates, if one is known.
+fn push_known_dates(new: &mut Vec<u8>, file: &MacFile) -> Result<(), AllocError>
+    requires created { is_apple_date file.now.created ≡ true }
+    requires modified { is_apple_date file.now.modified ≡ true }
+    ensures { OnOk result (new.new.items ≡ new.old.items ++ known_dates (view file.now)) }
+{
+    if has(Detail::Dates, file) {
+        push_dates(new, file)?;
+    }
+    Ok(())
+}
+
+/// Adds the bytes of the entries of AppleDouble.
+fn push_double_contents(new: &mut Vec<u8>, file: &MacFile) -> Result<(), AllocError>
+    requires created { is_apple_date file.now.created ≡ true }
+    requires modified { is_apple_date file.now.modified ≡ true }
+    ensures { OnOk result (new.new.items ≡ new.old.items ++ contents (double_entries (view file.now))) }
+{
+    push_finder(new, file)?;
+    new.extend_from_slice(file.resource_fork)?;
+    new.extend_from_slice(file.name)?;
+    new.extend_from_slice(file.comment)?;
+    push_known_dates(new, file)
+}
+
 /// The file as AppleDouble.
 pub(crate) fn write_double(alloc: Global, file: &MacFile) -> Result<Vec<u8>, Refusal>
     ensures file { IfOk result (λ new. new.items ≡ double_text (view file.now)) }
     ensures refusal { Refuses (result_err result) (unwritten AppleDouble (view file.now)) }
 {
+    know_file(file);
     check_parts(file)?;
-    let length = 86 + file.name.len() + file.comment.len() + 48 + file.resource_fork.len();
+    let length = double_length(file);
     check_numbers(length, file)?;
     let mut new = Vec::with_capacity(alloc, length)?;
-    push_head(&mut new, 7, 5)?;
-    let place = push_told_places(&mut new, 86, file)?;
-    push_place(&mut new, 2, place, file.resource_fork.len())?;
-    push_told(&mut new, file)?;
-    new.extend_from_slice(file.resource_fork)?;
+    let count = double_count(file);
+    push_head(&mut new, 7, count as u16)?;
+    push_double_places(&mut new, 26 + 12 * count, file)?;
+    push_double_contents(&mut new, file)?;
     Ok(new)
 }
 

@@ -40,7 +40,7 @@ fn says_something(bytes: &[u8]) -> bool
 }
 
 /// Whether the file has it: what is empty or zero isn't there.
-fn has(detail: Detail, file: &MacFile) -> bool
+pub(crate) fn has(detail: Detail, file: &MacFile) -> bool
     ensures { result ≡ has detail (view file.now) }
 {
     match detail {

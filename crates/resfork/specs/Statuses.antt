@@ -20,6 +20,7 @@ is_of_resource (problem.Edit (edit.Missing what)) = true
 is_of_resource (problem.Edit edit.Taken) = true
 is_of_resource (problem.NoKind kind) = true
 is_of_resource problem.Twice = true
+is_of_resource problem.IsThere = true
 is_of_resource other = false
 
 -- the words of the command line are bad, as those that ask for a form that a resource hasn't; or bytes would go to a

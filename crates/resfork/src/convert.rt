@@ -12,7 +12,7 @@ use crate::save::{OUTPUT, Ready, put_two, save_to};
 use crate::{INPUT, fork_found, read, read_other, table_found};
 use fork_answer::{Failure, NoFork};
 use fork_edit::convert::{Loss, NotConverted, Rewritten, Transfer, converted, holds_data};
-use fork_list::byte_of;
+use fork_edit::path_name::name_of_path;
 use fork_report::Refusal;
 use host_paths::{HostCalls, Identity};
 use mac_files::container::{Container, Version};
@@ -41,26 +41,6 @@ fn place_of(bytes: &[u8]) -> Place {
         kind if kind.is_alone() => Place::Nowhere,
         _ => Place::Inside,
     }
-}
-
-/// The name that a path gives a file: its last part, without "._" and the last extension, as far as MacRoman has its
-/// characters.
-fn name_of_path(alloc: Global, path: &str) -> Result<Vec<u8>, AllocError> {
-    let last = match path.rsplit_once("/") {
-        Some((_, last)) => last,
-        None => path,
-    };
-    let last = last.strip_prefix("._").unwrap_or(last);
-    let stem = match last.rsplit_once(".") {
-        Some((stem, _)) if !stem.is_empty() => stem,
-        _ => last,
-    };
-    let mut name = Vec::new(alloc);
-    for character in stem.chars() {
-        name.push(byte_of(character).unwrap_or(b'_'))
-            .map_err(AllocError::from)?;
-    }
-    Ok(name)
 }
 
 /// The name of the new file: the one that is asked for, its own, or in MacBinary and BinHex that of the path.

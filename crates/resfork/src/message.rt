@@ -68,8 +68,17 @@ pub enum Problem {
     #[error("two of these resources have one type and id: copy them one by one, by get and put")]
     Twice,
     /// A file that is there has more than a resource fork.
-    #[error("it is there, and is more than a resource fork, which would be lost: name another file")]
+    #[error("it is there, and is more than a resource fork, which would be lost: name another file, or --force replaces it")]
     Container(String),
+    /// A file that is there has so many resources that the new one lacks.
+    #[error("it is there, and has resources that the new file lacks, {count} of them: --into FILE keeps them, --force replaces the file")]
+    Lacking { path: String, count: usize },
+    /// A file that is there has no resource fork that can be read.
+    #[error("it is there, and no resource fork that can be read: name another file, or --force replaces it")]
+    NotFork(String),
+    /// A resource that is put into a file is there already.
+    #[error("there is such a resource already: --replace takes its place, --skip leaves out the other")]
+    IsThere,
     /// The standard output takes no more.
     #[error("the output can't be written: {0}")]
     Print(io::Error),
@@ -204,6 +213,7 @@ impl Problem {
             | Problem::Edit(fork_change::Refusal::Missing(_))
             | Problem::Edit(fork_change::Refusal::Taken)
             | Problem::NoKind(_)
+            | Problem::IsThere
             | Problem::Twice => NOT_FOUND,
             Problem::Terminal
             | Problem::NoDataFile
@@ -267,7 +277,9 @@ pub fn tell_problem(host: &Host<'_>, file: &str, problem: &Problem) {
         Problem::NoKind(kind) => tell_no_kind(host, file, *kind),
         Problem::Untold(others) => tell_untold(host, file, others.as_slice()),
         Problem::Output { path, .. } => tell_words(host, path.as_str(), problem),
-        Problem::Container(path) => tell_words(host, path.as_str(), problem),
+        Problem::Container(path) | Problem::NotFork(path) | Problem::Lacking { path, .. } => {
+            tell_words(host, path.as_str(), problem)
+        }
         problem => tell_words(host, file, problem),
     };
 }

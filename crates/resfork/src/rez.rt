@@ -2,15 +2,18 @@
 
 ghost use Rattle.std.specs.Prelude.{◌≡◌, IfOk};
 
-use crate::asked_change::Target;
+use crate::asked_change::{Copying, Packing, Place, Rezzing, Target};
 use crate::change::{say, write_output, written_file};
 use crate::host::Host;
 use crate::input::{NotRead, read_all};
 use crate::message::{DONE, Problem};
+use crate::work::{Failed, copy_rows, file_at_fault, of_file};
 use crate::{TableUse, read, read_other, read_whole, unread, use_table};
 use fork_bytes::table::{Row, Table};
+use fork_change::{Choice, Collision, Refusal};
 use fork_edit::file::{NotWritten, with_table};
-use fork_folder::manifest::{Packing, manifest_of};
+use fork_edit::replaced::{Lost, lost_of};
+use fork_folder::manifest::{Packing as Manifest, manifest_of};
 use fork_folder::rows::{Entry, packed};
 use fork_list::Quoted;
 use fork_list::letters::Letters;
@@ -51,14 +54,91 @@ pub fn derez_file(host: &Host<'_>, file: &str, kinds: &[ResType]) -> Result<u8, 
     use_table(host, file, &Derez(kinds))
 }
 
-/// Writes a fork of a text.
-pub fn rez_file(host: &Host<'_>, target: &Target<'_>) -> Result<u8, Problem>
+/// Writes a fork of a text, or puts its resources into a file.
+pub fn rez_file<'a>(host: &Host<'_>, asked: Rezzing<'a>) -> Result<u8, Failed<'a>>
     ensures { IfOk result (λ status. status ≡ DONE) }
 {
     let alloc = host.alloc();
-    let text = read(host, target.file)?;
-    let made = rez(alloc, &text).map_err(Problem::Rez)?;
-    write_table(host, target, &[], &made.table(alloc)?)
+    let source = asked.text;
+    let text = of_file(source, read(host, source))?;
+    let made = of_file(source, rez(alloc, &text).map_err(Problem::Rez))?;
+    let table = of_file(source, made.table(alloc).map_err(Problem::from))?;
+    deliver(host, source, asked.place, None, &table)
+}
+
+/// A file that another one is to be like, and its bytes.
+#[derive(Clone, Copy)]
+pub struct Like<'a, 'b> {
+    pub name: &'a str,
+    pub bytes: &'b [u8],
+}
+
+/// Puts the resources of a table where they go.
+fn deliver<'a>(
+    host: &Host<'_>,
+    source: &'a str,
+    place: Place<'a>,
+    like: Option<Like<'a, '_>>,
+    table: &Table<'_>,
+) -> Result<u8, Failed<'a>>
+    ensures { IfOk result (λ status. status ≡ DONE) }
+{
+    match place {
+        Place::New { target, is_forced } => {
+            let bytes: &[u8] = match like {
+                Some(like) => like.bytes,
+                None => &[],
+            };
+            write_table(host, &target, is_forced, bytes, table).map_err(|problem| Failed {
+                file: file_at_fault(like.map(|like| like.name), source, &problem),
+                problem,
+            })
+        }
+        Place::Into {
+            target,
+            on_collision,
+        } => put_rows(host, source, target, on_collision, table.rows.as_slice()),
+    }
+}
+
+/// Puts rows into a file that is there.
+fn put_rows<'a>(
+    host: &Host<'_>,
+    source: &'a str,
+    target: Target<'a>,
+    on_collision: Collision,
+    rows: &[Row<'_>],
+) -> Result<u8, Failed<'a>>
+    ensures { IfOk result (λ status. status ≡ DONE) }
+{
+    let mut chosen = Vec::new(host.alloc());
+    if chosen.push(Choice::All).is_err() {
+        return Err(Failed {
+            file: source,
+            problem: Problem::HostFull,
+        });
+    }
+    let asked = Copying {
+        from: source,
+        chosen,
+        on_collision,
+        target,
+    };
+    copy_rows(host, &asked, rows).map_err(with_advice)
+}
+
+/// What is in the way, with what can be done where a resource is there already.
+fn with_advice(failed: Failed<'_>) -> Failed<'_> {
+    match failed {
+        Failed {
+            file,
+            problem: Problem::Edit(Refusal::Taken),
+        } => Failed {
+            file,
+            problem: Problem::IsThere,
+        },
+        failed => failed,
+    }
 }
 
 /// Whether bytes are those of a file that has more than a resource fork.
@@ -66,19 +146,26 @@ fn is_container(bytes: &[u8]) -> bool {
     !kind_of(bytes).is_alone()
 }
 
-/// Refuses to write over a file that has more than a resource fork, or that is too long to be looked at.
-fn check_free(host: &Host<'_>, name: &str) -> Result<(), Problem> {
+/// Refuses to write over a file that has more than a resource fork, unless the new one is like another file, or that has
+/// resources which the new one lacks, or that can't be looked at.
+fn check_free(host: &Host<'_>, name: &str, like: &[u8], rows: &[Row<'_>]) -> Result<(), Problem> {
     match fs::metadata(host.rt, name) {
         Ok(found) if found.is_file() => {}
         _ => return Ok(()),
     }
-    match read_whole(host, name) {
-        Ok(bytes) if is_container(&bytes) => Err(Problem::Container(String::from_str(
-            host.alloc(),
-            name,
-        )?)),
-        Err(NotRead::TooLong(limit)) => unread(host, name, NotRead::TooLong(limit)),
-        _ => Ok(()),
+    let bytes = match read_whole(host, name) {
+        Ok(bytes) => bytes,
+        Err(error) => return unread(host, name, error),
+    };
+    let alloc = host.alloc();
+    if like.is_empty() && is_container(&bytes) {
+        return Err(Problem::Container(String::from_str(alloc, name)?));
+    }
+    let path = String::from_str(alloc, name)?;
+    match lost_of(alloc, &bytes, rows)? {
+        Lost::Nothing => Ok(()),
+        Lost::Resources(count) => Err(Problem::Lacking { path, count }),
+        Lost::Unknown => Err(Problem::NotFork(path)),
     }
 }
 
@@ -107,10 +194,12 @@ fn check_together(alloc: Global, rows: &[Row<'_>]) -> Result<(), Problem> {
     Err(Problem::Apart(format!(in alloc; "{kind} {id}")?))
 }
 
-/// Writes a file like another one, with a table as that of its resource fork; like none, a raw fork.
+/// Writes a file like another one, with a table as that of its resource fork; like none, a raw fork. A file that is there
+/// loses nothing, unless that is forced.
 fn write_table(
     host: &Host<'_>,
     target: &Target<'_>,
+    is_forced: bool,
     like: &[u8],
     table: &Table<'_>,
 ) -> Result<u8, Problem>
@@ -118,10 +207,11 @@ fn write_table(
 {
     let alloc = host.alloc();
     let name = written_file(target);
-    if like.is_empty() {
-        check_free(host, name)?;
+    let rows = table.rows.as_slice();
+    if !is_forced {
+        check_free(host, name, like, rows)?;
     }
-    check_together(alloc, table.rows.as_slice())?;
+    check_together(alloc, rows)?;
     let file = with_table(alloc, like, table).map_err(Problem::Write)?;
     write_output(host, target, &file)?;
     let count = table.rows.as_slice().len();
@@ -188,7 +278,7 @@ fn read_files(host: &Host<'_>, folder: &str, entries: &[Entry]) -> Result<Files,
 }
 
 /// What `resources.json` says of a folder.
-fn packing_of(host: &Host<'_>, folder: &str) -> Result<Packing, Problem> {
+fn packing_of(host: &Host<'_>, folder: &str) -> Result<Manifest, Problem> {
     let alloc = host.alloc();
     let path = format!(in alloc; "{folder}/{MANIFEST}")?;
     let text = read_other(host, path.as_str())?;
@@ -199,22 +289,23 @@ fn packing_of(host: &Host<'_>, folder: &str) -> Result<Packing, Problem> {
     manifest_of(alloc, text).map_err(Problem::Pack)
 }
 
-/// Writes a fork of the files in a folder and what `resources.json` says of them, in a file like this one.
-pub fn pack_folder(
+/// Writes a fork of the files in a folder and what `resources.json` says of them, in a file like this one; or puts its
+/// resources into a file.
+pub fn pack_folder<'a>(
     host: &Host<'_>,
-    folder: &str,
-    like: &[u8],
-    target: &Target<'_>,
-) -> Result<u8, Problem>
+    asked: Packing<'a>,
+    like: Option<Like<'a, '_>>,
+) -> Result<u8, Failed<'a>>
     ensures { IfOk result (λ status. status ≡ DONE) }
 {
-    let packing = packing_of(host, folder)?;
-    let files = read_files(host, folder, packing.entries.as_slice())?;
-    let rows = packed(host.alloc(), packing.entries.as_slice(), &files).map_err(Problem::Pack)?;
+    let folder = asked.folder;
+    let packing = of_file(folder, packing_of(host, folder))?;
+    let files = of_file(folder, read_files(host, folder, packing.entries.as_slice()))?;
+    let rows = packed(host.alloc(), packing.entries.as_slice(), &files);
     let table = Table {
-        rows,
+        rows: of_file(folder, rows.map_err(Problem::Pack))?,
         extra: packing.extra,
         map_attributes: packing.map_attributes,
     };
-    write_table(host, target, like, &table)
+    deliver(host, folder, asked.place, like, &table)
 }

@@ -8,7 +8,7 @@ use crate::change::{change, create};
 use crate::convert::convert;
 use crate::host::Host;
 use crate::message::{CANT_GO_ON, DONE, NOT_FOUND, Problem};
-use crate::rez::{derez_file, pack_folder, rez_file};
+use crate::rez::{Like, derez_file, pack_folder, rez_file};
 use crate::{INPUT, finish, fork_found, read, table_found, write_text};
 use fork_bytes::table::{Row, Table};
 use fork_change::{Choice, Differences, Refusal};
@@ -23,9 +23,9 @@ use std::io::ErrorKind;
 
 /// A file, and why it is in the way.
 #[derive(Drop)]
-struct Failed<'a> {
-    file: &'a str,
-    problem: Problem,
+pub struct Failed<'a> {
+    pub file: &'a str,
+    pub problem: Problem,
 }
 
 /// Does what is asked for. The result is the exit status.
@@ -39,7 +39,7 @@ pub fn work(host: &Host<'_>, work: Work<'_>) -> u8
 }
 
 /// What was done with a file, or that it is in the way.
-fn of_file<'a, T>(file: &'a str, done: Result<T, Problem>) -> Result<T, Failed<'a>>
+pub fn of_file<'a, T>(file: &'a str, done: Result<T, Problem>) -> Result<T, Failed<'a>>
     ensures { IfOk result (λ value. done ≡ Ok value) }
 {
     done.map_err(|problem| Failed { file, problem })
@@ -59,7 +59,7 @@ fn done<'a>(host: &Host<'_>, work: Work<'a>) -> Result<u8, Failed<'a>>
             asked.file,
             derez_file(host, asked.file, asked.kinds.as_slice()),
         ),
-        Work::Rez(target) => of_file(target.file, rez_file(host, &target)),
+        Work::Rez(asked) => rez_file(host, asked),
         Work::Pack(asked) => pack(host, asked),
         Work::Convert(asked) => of_file(asked.target.file, convert(host, &asked)),
     }
@@ -118,7 +118,11 @@ fn copy_from<'a>(host: &Host<'_>, asked: &Copying<'a>) -> Result<u8, Failed<'a>>
 }
 
 /// Copies those of these rows that are asked for to a file.
-fn copy_rows<'a>(host: &Host<'_>, asked: &Copying<'a>, rows: &[Row<'_>]) -> Result<u8, Failed<'a>>
+pub fn copy_rows<'a>(
+    host: &Host<'_>,
+    asked: &Copying<'a>,
+    rows: &[Row<'_>],
+) -> Result<u8, Failed<'a>>
     ensures { IfOk result (λ status. status ≡ DONE) }
 {
     let chosen = asked.chosen.as_slice();
@@ -195,31 +199,29 @@ fn difference_text(
     }
 }
 
-/// Writes a fork of the files in a folder, alone or in a file like another one.
+/// Writes a fork of the files in a folder, alone or in a file like another one; or puts its resources into a file.
 fn pack<'a>(host: &Host<'_>, asked: Packing<'a>) -> Result<u8, Failed<'a>>
     ensures { IfOk result (λ status. status ≡ DONE) }
 {
-    let bytes = match asked.like {
-        Some(like) => of_file(like, read(host, like))?,
-        None => Vec::new(host.alloc()),
+    let Some(name) = asked.like else {
+        return pack_folder(host, asked, None);
     };
-    match pack_folder(host, asked.folder, &bytes, &asked.target) {
-        Ok(status) => Ok(status),
-        Err(problem) => Err(Failed {
-            file: file_at_fault(&asked, &problem),
-            problem,
-        }),
-    }
+    let bytes = of_file(name, read(host, name))?;
+    let like = Like {
+        name,
+        bytes: &bytes,
+    };
+    pack_folder(host, asked, Some(like))
 }
 
-/// Which file is in the way where a folder isn't packed: the one that the new file is like, where that is a text which
-/// can't be read, or a container which can't hold the fork.
-fn file_at_fault<'a>(asked: &Packing<'a>, problem: &Problem) -> &'a str
-    ensures { result.now ≡ file_at_fault (option_map (λ like. like.now) asked.now.like) asked.now.folder.now problem.now }
+/// Which file is in the way where a fork isn't written of a text or a folder: the one that the new file is like, where
+/// that is a text which can't be read, or a container which can't hold the fork.
+pub fn file_at_fault<'a>(like: Option<&'a str>, source: &'a str, problem: &Problem) -> &'a str
+    ensures { result.now ≡ file_at_fault (option_map (λ like. like.now) like) source.now problem.now }
 {
-    match (asked.like, problem) {
+    match (like, problem) {
         (Some(like), Problem::Write(NotWritten::Text(_) | NotWritten::Container(_))) => like,
-        _ => asked.folder,
+        _ => source,
     }
 }
 
