@@ -1,4 +1,5 @@
 pub mod Damage
 pub mod Refused
 pub mod Reported
+pub mod Salvaged
 pub mod Json

@@ -1,5 +1,5 @@
 -- Why nothing is reported of a file.
-use Rattle.std.specs.Prelude.{◌≡◌, ◌≢◌, ℕ, true, false, List, [], ⊤}
+use Rattle.std.specs.Prelude.{◌≡◌, ◌≢◌, ℕ, Bool, true, false, if◌then◌else◌, List, [], Option, None, Some, ⊤}
 use Rattle.fork_bytes.specs.declared.fault.ForkFault.{ForkFault}
 use Rattle.fork_bytes.specs.declared.fault.ForkFault.TheVariants as fork_fault
 use Rattle.fork_bytes.specs.Fork.{RefusesWithin, format_limits}
@@ -24,6 +24,16 @@ IsTakenForFork BinHex damage = ⊤
 IsTakenForFork (Holds archive) damage = ⊥
 IsTakenForFork Unknown damage = is_of_fork damage ≡ true
 
+-- why a file that isn't taken for one with a fork in it is refused
+abbrev pub other_than : FileKind → Bool → Option Refusal
+other_than (In container) looks = None
+other_than BinHex looks = None
+other_than (Holds archive) looks = Some (refusal.Archive archive)
+other_than Unknown looks = if looks then None else Some refusal.Unknown
+
+abbrev pub other_than_fork : Damage → Option Refusal
+other_than_fork damage = other_than damage.kind (is_of_fork damage)
+
 -- what is reported of a file whose fork is refused: the damage, that it is an archive, or that nothing is known of it;
 -- where the host has no memory for that, the fault alone
 abbrev pub IsToldOfFork : List ℕ → ForkFault → Refusal → Type 0
@@ -32,7 +42,7 @@ IsToldOfFork file fault (refusal.Show failure.HostFull) = ⊤
 IsToldOfFork file fault (refusal.Damaged told readable) =
     (fork : List ℕ) × (damage : Damage) × IsDamageOf file fork damage × IsTakenForFork (kind_of file) damage × (readable ≡ is_readable damage.tally)
 IsToldOfFork file fault (refusal.Archive archive) = kind_of file ≡ Holds archive
-IsToldOfFork file fault (refusal.Unknown told) =
+IsToldOfFork file fault refusal.Unknown =
     (kind_of file ≡ Unknown) × ((fork : List ℕ) × (damage : Damage) × IsDamageOf file fork damage × (is_of_fork damage ≡ false))
 IsToldOfFork file fault other = ⊥
 

@@ -11,11 +11,13 @@ mod json_text;
 mod refusal;
 mod report;
 mod request;
+mod salvage;
 
 pub use damage::Tally;
 pub use json::{fork_line, refused_line};
 pub use json_diff::difference_line;
 pub use json_row::Bytes;
 pub use refusal::Refusal;
-pub use report::{Told, report_on, salvage, salvage_list};
+pub use report::{Told, report_on};
 pub use request::{Form, Report};
+pub use salvage::{ContainerDamage, DataSalvaged, ForkSalvaged, SalvageList, salvage, salvage_data, salvage_list};

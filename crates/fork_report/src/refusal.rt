@@ -2,7 +2,7 @@
 
 ghost use Rattle.std.specs.Prelude.{◌≡◌};
 ghost use Rattle.fork_report.specs.Damage.{is_readable};
-ghost use Rattle.fork_report.specs.Refused.{IsToldOf, IsToldOfFork};
+ghost use Rattle.fork_report.specs.Refused.{IsToldOf, IsToldOfFork, other_than_fork};
 
 use crate::damage::Damage;
 use fork_answer::{Failure, NoFork};
@@ -35,15 +35,18 @@ pub enum Refusal {
         told: String,
         is_readable: bool,
     },
+    /// It has no data fork. This is what the file is.
+    #[error("{0}: it has no data fork")]
+    NoData(&'static str),
     /// Nothing can be read of its fork.
     #[error("no resource can be read")]
     Nothing,
     /// Too much can be read for one fork.
     #[error("more can be read than one fork holds, 16777216 bytes of resources, and a map whose offsets have two bytes (5,458 resources without names): nothing is written; resfork salvage --list shows what there is")]
     TooMuch,
-    /// It is nothing that is known.
-    #[error("neither a resource fork nor a file that has one in it: {0}")]
-    Unknown(String),
+    /// It is nothing that is known, and nothing in it looks like a resource fork.
+    #[error("neither a resource fork nor a file that has one in it")]
+    Unknown,
 }
 
 impl Refusal {
@@ -90,14 +93,25 @@ impl Refusal {
         let Some(damage) = Damage::of_file(alloc, file) else {
             return Refusal::Show(Failure::Fork(refusal));
         };
-        let Ok(told) = format!(in alloc; "{damage}") else {
-            return Refusal::Show(Failure::HostFull);
-        };
+        if let Some(refusal) = Refusal::of_other(&damage) {
+            return refusal;
+        }
+        match format!(in alloc; "{damage}") {
+            Ok(told) => Refusal::damaged(told, damage),
+            Err(_) => Refusal::Show(Failure::HostFull),
+        }
+    }
+
+    /// Why a file whose bytes have this damage as a fork isn't taken for one with a fork in it: it is an archive, or
+    /// nothing in it looks like a fork. None where it is taken for one.
+    pub fn of_other(damage: &Damage) -> Option<Refusal>
+        ensures { result ≡ other_than_fork damage.now }
+    {
         match damage.kind {
-            FileKind::Container(_) | FileKind::BinHex => Refusal::damaged(told, damage),
-            FileKind::Archive(archive) => Refusal::Archive(archive),
-            FileKind::Unknown if damage.is_of_fork() => Refusal::damaged(told, damage),
-            FileKind::Unknown => Refusal::Unknown(told),
+            FileKind::Container(_) | FileKind::BinHex => None,
+            FileKind::Archive(archive) => Some(Refusal::Archive(archive)),
+            FileKind::Unknown if damage.is_of_fork() => None,
+            FileKind::Unknown => Some(Refusal::Unknown),
         }
     }
 

@@ -1,24 +1,20 @@
-//! What the commands do that report on files: what each is, its faults, and what can be read of it.
+//! What the commands do that report on files: what each is, and its faults.
 
-ghost use Rattle.std.specs.Prelude.{◌≡◌, ◌≢◌, ◌↔◌, ℕ, List, [], IfErr, IfOk, IsTrue, false, string_bytes};
-ghost use Rattle.fork_answer.specs.Lines.{salvage_listing};
+ghost use Rattle.std.specs.Prelude.{◌≡◌, ◌≢◌, ◌↔◌, [], IfErr, IfOk, IsTrue, false};
 ghost use Rattle.mac_files.specs.OldFiles.{fork_of};
 ghost use Rattle.fork_answer.specs.Source.{IsForkIn};
-ghost use Rattle.fork_report.specs.Damage.{IsDamaged, is_readable, tally_of};
+ghost use Rattle.fork_report.specs.Damage.{IsDamaged};
 ghost use Rattle.fork_report.specs.Refused.{IsRefused};
-ghost use Rattle.fork_report.specs.Reported.{HasTable, IsNotSalvaged, Salvages, Tells, TellsLeft};
+ghost use Rattle.fork_report.specs.Reported.{HasTable, Tells};
 
-use crate::damage::{MOST_FOUND, Tally, tally_of};
 use crate::info::info_text;
 use crate::json::{check_line, info_line, list_line};
 use crate::json_row::Bytes;
 use crate::refusal::Refusal;
 use crate::request::{Form, Report};
 use fork_answer::warning::{Warning, warnings};
-use fork_answer::{Failure, mended_fork, resource_fork, salvage_listing};
-use fork_bytes::fault::WriteFault;
-use fork_list::letters::Letters;
-use fork_salvage::{Fault, all_faults, first_fault};
+use fork_answer::{Failure, resource_fork};
+use fork_salvage::{Fault, all_faults};
 use mac_base::resource::ResType;
 use mac_files::OldFile;
 use mac_files::kind::FileKind;
@@ -155,46 +151,4 @@ fn check_text(alloc: Global, faults: &[Fault], warnings: &[Warning]) -> Result<S
         writeln!(text, "no fault")?;
     }
     Ok(text)
-}
-
-/// A line for each resource that can be read of a file's fork, and for each that can't.
-pub fn salvage_list(alloc: Global, letters: Letters, bytes: &[u8]) -> Result<String, Refusal>
-    ensures list { IfOk result (λ text. (fork : List ℕ) × IsForkIn bytes.now fork × (string_bytes text ≡ salvage_listing letters fork MOST_FOUND)) }
-    ensures refused { IfErr result (IsRefused bytes.now) }
-{
-    let found = fork_in(alloc, bytes)?;
-    match salvage_listing(alloc, letters, found.fork(), MOST_FOUND) {
-        Ok(text) => Ok(text),
-        Err(_) => Err(Refusal::Show(Failure::HostFull)),
-    }
-}
-
-/// How much can be read of a fork that is damaged; None of one that isn't. It is refused where no resource can be read.
-fn left_of(alloc: Global, fork: &[u8]) -> Result<Option<Tally>, Refusal>
-    ensures told { IfOk result (TellsLeft fork.now) }
-    ensures nothing { IfErr result (λ refusal. (refusal ≡ Refusal.Nothing) × IsDamaged fork.now × (is_readable (tally_of fork.now) ≡ false)) }
-{
-    if fork.is_empty() || first_fault(alloc, fork).is_none() {
-        return Ok(None);
-    }
-    let tally = tally_of(fork);
-    if !tally.is_some_and(Tally::is_readable) {
-        return Err(Refusal::Nothing);
-    }
-    Ok(tally)
-}
-
-/// A fork of all resources that can be read of a file's fork, and how many they are of how many, unless that is all.
-pub fn salvage(alloc: Global, bytes: &[u8]) -> Result<(Vec<u8>, Option<Tally>), Refusal>
-    ensures salvaged { IfOk result (λ salvaged. Salvages bytes.now salvaged.0.items salvaged.1) }
-    ensures refused { IfErr result (IsNotSalvaged bytes.now) }
-{
-    let found = fork_in(alloc, bytes)?;
-    let fork = found.fork();
-    let left = left_of(alloc, fork)?;
-    match mended_fork(alloc, fork) {
-        Ok(bytes) => Ok((bytes, left)),
-        Err(WriteFault::HostFull) => Err(Refusal::Show(Failure::HostFull)),
-        Err(WriteFault::TooBig) => Err(Refusal::TooMuch),
-    }
 }
