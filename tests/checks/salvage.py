@@ -18,7 +18,7 @@ from checks.fork_questions import Difference
 from checks.forks import Choices, run
 from model.container import TOLD, NoContents, in_spite, resource_fork
 from model.contents import WRITERS, Contents
-from model.fork import FORMAT, MESSAGES, NoFork, Row, listing, read_fork
+from model.fork import FORMAT, MESSAGES, OTHER, NoFork, Row, listing, read_fork
 
 FORKS, CHANGES, SHARE = 3, 300, 0.95
 KINDS = [b"TEXT", b"STR ", b"CODE", b"ICN#", b"snd ", b"PAT#", b"vers", b"DITL"]
@@ -314,13 +314,12 @@ def try_containers(program, path):
 def not_forks():
     """Files that aren't forks, with what is said of each."""
     choices = random.Random(5)
-    unknown = "neither a resource fork nor a file that has one in it"
     text = b"Call me Ishmael. Some years ago - never mind how long precisely - having little or no money in my purse, " * 40
-    yield "a text", text, unknown
-    yield "a short text", b"hello", unknown
-    yield "zeros", bytes(5000), unknown
+    yield "a text", text, OTHER
+    yield "a short text", b"hello", OTHER
+    yield "zeros", bytes(5000), OTHER
     for size in (17, 300, 5000, 100000):
-        yield f"{size} random bytes", choices.randbytes(size), unknown
+        yield f"{size} random bytes", choices.randbytes(size), OTHER
     yield "an old StuffIt archive", b"SIT!" + bytes(6) + b"rLau" + choices.randbytes(500), "a StuffIt archive, which resfork doesn't unpack: unar -k hidden "
     yield "a StuffIt archive", b"StuffIt (c)1997-1998 Aladdin Systems, Inc." + choices.randbytes(500), "a StuffIt archive, which resfork doesn't unpack: unar -k hidden "
     yield "a disk image", bytes(1024) + b"BD" + choices.randbytes(3000), "a HFS volume, which resfork doesn't unpack: hmount "

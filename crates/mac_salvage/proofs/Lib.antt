@@ -1,1 +1,3 @@
 pub mod Mending
+pub mod Opening
+pub mod Reaching
