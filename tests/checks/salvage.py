@@ -272,7 +272,7 @@ def try_spoiled(program, path, kind, what, file, rows):
         if part is None:
             must((status, output) == (3, b"") and not os.path.exists(out), f"{what}: salvage {words} ended with {status} and wrote {output!r}")
             continue
-        must("no resource can be read" in said or f"\n  {len(part[1])} of the {part[0]} bytes of its {name} are read\n" in said, f"{what}: salvage {words} told {said!r}")
+        must(f"\n  {len(part[1])} of the {part[0]} bytes of its {name} are read\n" in said, f"{what}: salvage {words} told {said!r}")
         if name == "data fork":
             with open(out, "rb") as saved:
                 must((status, saved.read()) == (0, part[1]), f"{what}: salvage {words} wrote another data fork")

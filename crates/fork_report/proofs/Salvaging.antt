@@ -28,7 +28,8 @@ use Rattle.fork_report.specs.declared.refusal.Refusal.{Refusal}
 use Rattle.fork_report.specs.declared.refusal.Refusal.TheVariants as refusal
 use Rattle.fork_report.specs.Damage.{IsDamageOf, is_of_fork}
 use Rattle.fork_report.specs.Refused.{IsTakenForFork, IsToldOf, IsToldOfFork, other_than, other_than_fork}
-use Rattle.fork_report.specs.Salvaged.{IsDataNotSalvaged, IsGone, IsNotListed, IsNotSalvaged, IsRefusedAsOther, IsRefusedWhere, LooksLikeFork}
+use Rattle.fork_report.specs.declared.salvage.ContainerDamage.{ContainerDamage}
+use Rattle.fork_report.specs.Salvaged.{HasNothing, IsDataNotSalvaged, IsGone, IsNotListed, IsNotSalvaged, IsRefusedAsOther, IsRefusedWhere, IsUnreadable, ListsNothing, LooksLikeFork, nothing_left}
 
 -- Files that are known as none with a fork.
 
@@ -139,6 +140,7 @@ told_no_fork gone file (no_fork.File (Container why)) (refusal.Archive archive) 
 told_no_fork gone file (no_fork.File (Container why)) (refusal.Damaged told readable) is_gone lacks is = absurd is
 told_no_fork gone file (no_fork.File (Container why)) (refusal.NoData name) is_gone lacks is = absurd is
 told_no_fork gone file (no_fork.File (Container why)) refusal.Nothing is_gone lacks is = absurd is
+told_no_fork gone file (no_fork.File (Container why)) (refusal.NothingLeft damage) is_gone lacks is = absurd is
 told_no_fork gone file (no_fork.File (Container why)) refusal.TooMuch is_gone lacks is = absurd is
 told_no_fork gone file (no_fork.File (Container why)) refusal.Unknown is_gone lacks is = absurd is
 told_no_fork gone file (no_fork.File (Text why)) (refusal.Container container told) is_gone lacks is =
@@ -148,6 +150,7 @@ told_no_fork gone file (no_fork.File (Text why)) (refusal.Archive archive) is_go
 told_no_fork gone file (no_fork.File (Text why)) (refusal.Damaged told readable) is_gone lacks is = absurd is
 told_no_fork gone file (no_fork.File (Text why)) (refusal.NoData name) is_gone lacks is = absurd is
 told_no_fork gone file (no_fork.File (Text why)) refusal.Nothing is_gone lacks is = absurd is
+told_no_fork gone file (no_fork.File (Text why)) (refusal.NothingLeft damage) is_gone lacks is = absurd is
 told_no_fork gone file (no_fork.File (Text why)) refusal.TooMuch is_gone lacks is = absurd is
 told_no_fork gone file (no_fork.File (Text why)) refusal.Unknown is_gone lacks is = absurd is
 told_no_fork gone file no_fork.Absent (refusal.Container container told) is_gone lacks is = ((failure.NoFork no_fork.Absent, lacks, is), is_gone)
@@ -156,6 +159,7 @@ told_no_fork gone file no_fork.Absent (refusal.Archive archive) is_gone lacks is
 told_no_fork gone file no_fork.Absent (refusal.Damaged told readable) is_gone lacks is = absurd is
 told_no_fork gone file no_fork.Absent (refusal.NoData name) is_gone lacks is = absurd is
 told_no_fork gone file no_fork.Absent refusal.Nothing is_gone lacks is = absurd is
+told_no_fork gone file no_fork.Absent (refusal.NothingLeft damage) is_gone lacks is = absurd is
 told_no_fork gone file no_fork.Absent refusal.TooMuch is_gone lacks is = absurd is
 told_no_fork gone file no_fork.Absent refusal.Unknown is_gone lacks is = absurd is
 
@@ -170,6 +174,7 @@ refused_where a b file (refusal.Archive archive) follows is = is
 refused_where a b file (refusal.Damaged told readable) follows is = absurd is
 refused_where a b file (refusal.NoData name) follows is = absurd is
 refused_where a b file refusal.Nothing follows is = absurd is
+refused_where a b file (refusal.NothingLeft damage) follows is = absurd is
 refused_where a b file refusal.TooMuch follows is = absurd is
 refused_where a b file refusal.Unknown follows is = is
 
@@ -181,6 +186,7 @@ other_where a file (refusal.Archive archive) is = is
 other_where a file (refusal.Damaged told readable) is = absurd is
 other_where a file (refusal.NoData name) is = absurd is
 other_where a file refusal.Nothing is = absurd is
+other_where a file (refusal.NothingLeft damage) is = absurd is
 other_where a file refusal.TooMuch is = absurd is
 other_where a file refusal.Unknown is = is
 
@@ -191,6 +197,7 @@ not_listed letters file (refusal.Archive archive) is = is
 not_listed letters file (refusal.Damaged told readable) is = is
 not_listed letters file (refusal.NoData name) is = is
 not_listed letters file refusal.Nothing is = absurd is
+not_listed letters file (refusal.NothingLeft damage) is = absurd is
 not_listed letters file refusal.TooMuch is = is
 not_listed letters file refusal.Unknown is = is
 
@@ -201,6 +208,7 @@ not_salvaged file (refusal.Archive archive) is = is
 not_salvaged file (refusal.Damaged told readable) is = is
 not_salvaged file (refusal.NoData name) is = is
 not_salvaged file refusal.Nothing is = absurd is
+not_salvaged file (refusal.NothingLeft damage) is = absurd is
 not_salvaged file refusal.TooMuch is = absurd is
 not_salvaged file refusal.Unknown is = is
 
@@ -211,6 +219,7 @@ data_not_salvaged file (refusal.Archive archive) is = is
 data_not_salvaged file (refusal.Damaged told readable) is = is
 data_not_salvaged file (refusal.NoData name) is = absurd is
 data_not_salvaged file refusal.Nothing is = is
+data_not_salvaged file (refusal.NothingLeft damage) is = is
 data_not_salvaged file refusal.TooMuch is = is
 data_not_salvaged file refusal.Unknown is = is
 
@@ -254,3 +263,13 @@ absent_as file (Err why) whole none = absurd (cc whole)
 -- a file without a fault and without a fork
 pub absent_by : (file : List ℕ) → container_fault file ≡ None → (forks_in_spite file).resource_fork ≡ None → fork_said (old_file file) ≡ Ok None
 absent_by file whole none = absent_as file (old_file file) whole none
+
+-- Nothing is read of a fork.
+
+pub none_listed : (letters : Letters) (file : List ℕ) (damage : Option ContainerDamage) → HasNothing (ListsNothing letters) file damage → IsNotListed letters file (nothing_left damage)
+none_listed letters file None has = has
+none_listed letters file (Some damage) has = has
+
+pub none_salvaged : (file : List ℕ) (damage : Option ContainerDamage) → HasNothing IsUnreadable file damage → IsNotSalvaged file (nothing_left damage)
+none_salvaged file None has = has
+none_salvaged file (Some damage) has = has

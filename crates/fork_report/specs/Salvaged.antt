@@ -82,10 +82,27 @@ pub record Lists (letters : Letters) (file : List ℕ) (listed : SalvageList) : 
   pub some : IsDamaged left.bytes → string_bytes listed.text ≢ []
   pub damage : listed.damage ≡ damage_of file which.Resource left
 
+-- that nothing can be read of a fork
+abbrev pub nothing_left : Option ContainerDamage → Refusal
+nothing_left None = refusal.Nothing
+nothing_left (Some damage) = refusal.NothingLeft damage
+
+-- the resource fork is damaged, and this is so of it, and said of the container
+abbrev pub HasNothing : (List ℕ → Type 0) → List ℕ → Option ContainerDamage → Type 0
+HasNothing nothing file damage =
+    (left : Left) × ((forks_in_spite file).resource_fork ≡ Some left) × (damage ≡ damage_of file which.Resource left) × IsDamaged left.bytes × nothing left.bytes
+
+-- nothing is listed of a fork, or nothing can be read of it
+abbrev pub ListsNothing : Letters → List ℕ → Type 0
+ListsNothing letters fork = salvage_listing letters fork MOST_FOUND ≡ []
+
+abbrev pub IsUnreadable : List ℕ → Type 0
+IsUnreadable fork = is_readable (tally_of fork) ≡ false
+
 -- why nothing is listed: nothing is found in a damaged fork, or there is none
 abbrev pub IsNotListed : Letters → List ℕ → Refusal → Type 0
-IsNotListed letters file refusal.Nothing =
-    (left : Left) × ((forks_in_spite file).resource_fork ≡ Some left) × IsDamaged left.bytes × (salvage_listing letters left.bytes MOST_FOUND ≡ [])
+IsNotListed letters file refusal.Nothing = HasNothing (ListsNothing letters) file None
+IsNotListed letters file (refusal.NothingLeft damage) = HasNothing (ListsNothing letters) file (Some damage)
 IsNotListed letters file other = IsNotLeft file other
 
 -- how much of a fork is salvaged, unless that is all
@@ -104,16 +121,24 @@ pub record Salvages (file : List ℕ) (salvaged : ForkSalvaged) : Type 0 where
 
 -- why nothing is salvaged: no resource can be read of a damaged fork, or more than one fork holds; or there is no fork
 abbrev pub IsNotSalvaged : List ℕ → Refusal → Type 0
-IsNotSalvaged file refusal.Nothing =
-    (left : Left) × ((forks_in_spite file).resource_fork ≡ Some left) × IsDamaged left.bytes × (is_readable (tally_of left.bytes) ≡ false)
+IsNotSalvaged file refusal.Nothing = HasNothing IsUnreadable file None
+IsNotSalvaged file (refusal.NothingLeft damage) = HasNothing IsUnreadable file (Some damage)
 IsNotSalvaged file refusal.TooMuch = (left : Left) × ((forks_in_spite file).resource_fork ≡ Some left) × IsTooBig left.bytes
 IsNotSalvaged file other = IsNotLeft file other
+
+-- the bytes of the data fork that are handed out
+abbrev pub bytes_or_none : Option Left → List ℕ
+bytes_or_none None = []
+bytes_or_none (Some left) = left.bytes
+
+abbrev pub data_by : DataSalvaged → List ℕ
+data_by salvaged = bytes_or_none (forks_by salvaged.file).data_fork
 
 -- what is written of a file's data fork: the bytes that are there
 pub record SalvagesData (file : List ℕ) (salvaged : DataSalvaged) : Type 0 where
   pub left : Left
   pub fork : (forks_in_spite file).data_fork ≡ Some left
-  pub bytes : salvaged.bytes.items ≡ left.bytes
+  pub bytes : data_by salvaged ≡ left.bytes
   pub damage : salvaged.damage ≡ damage_of file which.Data left
 
 -- why nothing of it is: the file has no data fork, or nothing of it is there

@@ -5,6 +5,7 @@ ghost use Rattle.fork_report.specs.Damage.{is_readable};
 ghost use Rattle.fork_report.specs.Refused.{IsToldOf, IsToldOfFork, other_than_fork};
 
 use crate::damage::Damage;
+use crate::salvage::ContainerDamage;
 use fork_answer::{Failure, NoFork};
 use fork_bytes::fault::ForkFault;
 use mac_files::archive::Archive;
@@ -41,6 +42,9 @@ pub enum Refusal {
     /// Nothing can be read of its fork.
     #[error("no resource can be read")]
     Nothing,
+    /// Nothing can be read of what is there of its fork.
+    #[error("{0}\n  no resource can be read")]
+    NothingLeft(ContainerDamage),
     /// Too much can be read for one fork.
     #[error("more can be read than one fork holds, 16777216 bytes of resources, and a map whose offsets have two bytes (5,458 resources without names): nothing is written; resfork salvage --list shows what there is")]
     TooMuch,

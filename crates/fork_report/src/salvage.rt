@@ -5,7 +5,7 @@ ghost use Rattle.std.specs.Prelude.{◌≡◌, IfErr, IfNone, IfOk, IfSome, IsTr
 ghost use Rattle.mac_files.specs.Kinds.{kind_of};
 ghost use Rattle.mac_salvage.specs.InSpite.{fault_by, forks_in_spite, kind_by, left_by};
 ghost use Rattle.fork_report.specs.Damage.{IsDamaged, is_readable, tally_of};
-ghost use Rattle.fork_report.specs.Salvaged.{HasLeft, IsDataNotSalvaged, IsNotLeft, IsNotListed, IsNotSalvaged, IsRefusedAsOther, IsTaken, Lists, Salvages, SalvagesData, TellsLeft, damage_by};
+ghost use Rattle.fork_report.specs.Salvaged.{HasLeft, IsDataNotSalvaged, IsNotLeft, IsNotListed, IsNotSalvaged, IsRefusedAsOther, IsTaken, Lists, Salvages, SalvagesData, TellsLeft, damage_by, data_by, nothing_left};
 
 use crate::damage::{Damage, MOST_FOUND, Tally, tally_of};
 use crate::refusal::Refusal;
@@ -65,11 +65,23 @@ pub struct ForkSalvaged {
     pub damage: Option<ContainerDamage>,
 }
 
-/// The bytes of a file's data fork that are there.
+/// A file of whose data fork some bytes are there.
 #[derive(Drop)]
-pub struct DataSalvaged {
-    pub bytes: Vec<u8>,
+pub struct DataSalvaged<'a> {
+    file: FileLeft<'a>,
     pub damage: Option<ContainerDamage>,
+}
+
+impl DataSalvaged<'_> {
+    /// The bytes of its data fork that are there.
+    pub fn bytes(&self) -> &[u8]
+        ensures { result.now ≡ data_by self.now }
+    {
+        match self.file.data_fork() {
+            Some(fork) => fork.bytes,
+            None => &[],
+        }
+    }
 }
 
 /// What is said of a fault of a file's container, where this is read of a fork.
@@ -141,6 +153,16 @@ fn is_damaged(alloc: Global, fork: &[u8]) -> bool
     !fork.is_empty() && first_fault(alloc, fork).is_some()
 }
 
+/// That nothing can be read of a fork, with what is said of a fault of the container.
+fn nothing_left(damage: Option<ContainerDamage>) -> Refusal
+    ensures { result ≡ nothing_left damage }
+{
+    match damage {
+        Some(damage) => Refusal::NothingLeft(damage),
+        None => Refusal::Nothing,
+    }
+}
+
 /// A line for each resource that can be read of a file's fork, and for each that can't. It is refused where there is
 /// none, unless the fork has no fault.
 pub fn salvage_list(alloc: Global, letters: Letters, bytes: &[u8]) -> Result<SalvageList, Refusal>
@@ -152,24 +174,28 @@ pub fn salvage_list(alloc: Global, letters: Letters, bytes: &[u8]) -> Result<Sal
     let Ok(text) = salvage_listing(alloc, letters, fork.bytes, MOST_FOUND) else {
         return Err(Refusal::Show(Failure::HostFull));
     };
-    if text.as_str().is_empty() && is_damaged(alloc, fork.bytes) {
-        return Err(Refusal::Nothing);
-    }
     let damage = damage_by(&file, Fork::Resource, &fork);
+    if text.as_str().is_empty() && is_damaged(alloc, fork.bytes) {
+        return Err(nothing_left(damage));
+    }
     Ok(SalvageList { text, damage })
 }
 
 /// How much can be read of a fork that is damaged; None of one that isn't. It is refused where no resource can be read.
-fn left_of(alloc: Global, fork: &[u8]) -> Result<Option<Tally>, Refusal>
+fn left_of(
+    alloc: Global,
+    fork: &[u8],
+    damage: Option<ContainerDamage>,
+) -> Result<Option<Tally>, Refusal>
     ensures told { IfOk result (TellsLeft fork.now) }
-    ensures nothing { IfErr result (λ refusal. (refusal ≡ Refusal.Nothing) × IsDamaged fork.now × (is_readable (tally_of fork.now) ≡ false)) }
+    ensures nothing { IfErr result (λ refusal. (refusal ≡ nothing_left damage) × IsDamaged fork.now × (is_readable (tally_of fork.now) ≡ false)) }
 {
     if fork.is_empty() || first_fault(alloc, fork).is_none() {
         return Ok(None);
     }
     let tally = tally_of(fork);
     if !tally.is_some_and(Tally::is_readable) {
-        return Err(Refusal::Nothing);
+        return Err(nothing_left(damage));
     }
     Ok(tally)
 }
@@ -181,8 +207,8 @@ pub fn salvage(alloc: Global, bytes: &[u8]) -> Result<ForkSalvaged, Refusal>
 {
     let file = file_left(alloc, bytes)?;
     let fork = fork_of(alloc, &file, bytes)?;
-    let tally = left_of(alloc, fork.bytes)?;
     let damage = damage_by(&file, Fork::Resource, &fork);
+    let tally = left_of(alloc, fork.bytes, damage)?;
     match mended_fork(alloc, fork.bytes) {
         Ok(bytes) => Ok(ForkSalvaged {
             bytes,
@@ -209,16 +235,13 @@ fn data_of<'a>(alloc: Global, file: &'a FileLeft<'_>, bytes: &[u8]) -> Result<Fo
     }
 }
 
-/// The bytes of a file's data fork that are there. It is refused where there are none.
-pub fn salvage_data(alloc: Global, bytes: &[u8]) -> Result<DataSalvaged, Refusal>
+/// The data fork of a file, as far as its bytes are there. It is refused where there are none.
+pub fn salvage_data<'a>(alloc: Global, bytes: &'a [u8]) -> Result<DataSalvaged<'a>, Refusal>
     ensures salvaged { IfOk result (SalvagesData bytes.now) }
     ensures refused { IfErr result (IsDataNotSalvaged bytes.now) }
 {
     let file = file_left(alloc, bytes)?;
     let fork = data_of(alloc, &file, bytes)?;
     let damage = damage_by(&file, Fork::Data, &fork);
-    match Vec::from_slice(alloc, fork.bytes) {
-        Ok(bytes) => Ok(DataSalvaged { bytes, damage }),
-        Err(_) => Err(Refusal::Show(Failure::HostFull)),
-    }
+    Ok(DataSalvaged { file, damage })
 }

@@ -276,7 +276,7 @@ fn write_salvaged(
 /// Writes the data fork of a file with these bytes to another.
 fn save_data(host: &Host<'_>, file: &str, bytes: &[u8], output: &str) -> Result<(), Problem> {
     let salvaged = salvage_data(host.alloc(), bytes)?;
-    save_to(host, output, salvaged.bytes.as_slice())?;
+    save_to(host, output, salvaged.bytes())?;
     tell_damage(host, file, salvaged.damage);
     Ok(())
 }
