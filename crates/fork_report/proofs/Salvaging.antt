@@ -28,7 +28,7 @@ use Rattle.fork_report.specs.declared.refusal.Refusal.{Refusal}
 use Rattle.fork_report.specs.declared.refusal.Refusal.TheVariants as refusal
 use Rattle.fork_report.specs.Damage.{IsDamageOf, is_of_fork}
 use Rattle.fork_report.specs.Refused.{IsTakenForFork, IsToldOf, IsToldOfFork, other_than, other_than_fork}
-use Rattle.fork_report.specs.declared.salvage.ContainerDamage.{ContainerDamage}
+use Rattle.fork_report.specs.declared.salvaged.ContainerDamage.{ContainerDamage}
 use Rattle.fork_report.specs.Salvaged.{HasNothing, IsDataNotSalvaged, IsGone, IsNotListed, IsNotSalvaged, IsRefusedAsOther, IsRefusedWhere, IsUnreadable, ListsNothing, LooksLikeFork, nothing_left}
 
 -- Files that are known as none with a fork.
@@ -87,8 +87,7 @@ unlike : (file fork : List ℕ) (damage : Damage) (told : Refusal) (looks : Bool
     → is_of_fork damage ≡ looks → (if looks then None else Some refusal.Unknown) ≡ Some told → IsRefusedAsOther file told
 unlike file fork damage told true kind some is_damage looks is = absurd (cc is)
 unlike file fork damage told false kind some is_damage looks is =
-    subst (λ (r : Refusal). IsRefusedAsOther file r) (cc is)
-    (
+    subst (λ (r : Refusal). IsRefusedAsOther file r) (cc is) (
       failure.Fork (refusal_of damage.fault),
       (fork, is_damage.found, (some, is_damage.refuses)),
       told_of_fork file (refusal_of damage.fault) refusal.Unknown (never_full damage.fault) (kind, (fork, damage, is_damage, looks)),
@@ -99,8 +98,7 @@ other_of : (file fork : List ℕ) (damage : Damage) (told : Refusal) (k : FileKi
 other_of file fork damage told (In container) kind some is_damage is = absurd (cc is)
 other_of file fork damage told BinHex kind some is_damage is = absurd (cc is)
 other_of file fork damage told (Archive archive) kind some is_damage is =
-    subst (λ (r : Refusal). IsRefusedAsOther file r) (cc is)
-    (
+    subst (λ (r : Refusal). IsRefusedAsOther file r) (cc is) (
       failure.Fork (refusal_of damage.fault),
       (fork, is_damage.found, (some, is_damage.refuses)),
       told_of_fork file (refusal_of damage.fault) (refusal.Archive archive) (never_full damage.fault) kind,

@@ -17,10 +17,10 @@ use Rattle.fork_report.specs.declared.damage.Tally.{Tally}
 use Rattle.fork_report.specs.declared.damage.TheConstants.{MOST_FOUND}
 use Rattle.fork_report.specs.declared.refusal.Refusal.{Refusal}
 use Rattle.fork_report.specs.declared.refusal.Refusal.TheVariants as refusal
-use Rattle.fork_report.specs.declared.salvage.ContainerDamage.{ContainerDamage}
-use Rattle.fork_report.specs.declared.salvage.DataSalvaged.{DataSalvaged}
-use Rattle.fork_report.specs.declared.salvage.ForkSalvaged.{ForkSalvaged}
-use Rattle.fork_report.specs.declared.salvage.SalvageList.{SalvageList}
+use Rattle.fork_report.specs.declared.salvaged.ContainerDamage.{ContainerDamage}
+use Rattle.fork_report.specs.declared.salvaged.DataSalvaged.{DataSalvaged}
+use Rattle.fork_report.specs.declared.salvaged.ForkSalvaged.{ForkSalvaged}
+use Rattle.fork_report.specs.declared.salvaged.SalvageList.{SalvageList}
 use Rattle.fork_report.specs.Damage.{IsDamageOf, IsDamaged, is_readable, tally_of}
 use Rattle.fork_report.specs.Refused.{IsRefused, IsTakenForFork}
 

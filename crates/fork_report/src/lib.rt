@@ -11,7 +11,7 @@ mod json_text;
 mod refusal;
 mod report;
 mod request;
-mod salvage;
+mod salvaged;
 
 pub use damage::Tally;
 pub use json::{fork_line, refused_line};
@@ -20,4 +20,6 @@ pub use json_row::Bytes;
 pub use refusal::Refusal;
 pub use report::{Told, report_on};
 pub use request::{Form, Report};
-pub use salvage::{ContainerDamage, DataSalvaged, ForkSalvaged, SalvageList, salvage, salvage_data, salvage_list};
+pub use salvaged::{
+    ContainerDamage, DataSalvaged, ForkSalvaged, SalvageList, salvage, salvage_data, salvage_list,
+};

@@ -5,7 +5,7 @@ ghost use Rattle.fork_report.specs.Damage.{is_readable};
 ghost use Rattle.fork_report.specs.Refused.{IsToldOf, IsToldOfFork, other_than_fork};
 
 use crate::damage::Damage;
-use crate::salvage::ContainerDamage;
+use crate::salvaged::ContainerDamage;
 use fork_answer::{Failure, NoFork};
 use fork_bytes::fault::ForkFault;
 use mac_files::archive::Archive;

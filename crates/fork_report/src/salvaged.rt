@@ -44,7 +44,10 @@ impl fmt::Display for ContainerDamage {
             there,
         } = *self;
         let name = kind.name();
-        write!(f, "{name}: {fault}\n  {there} of the {said} bytes of its {fork} are read")
+        write!(
+            f,
+            "{name}: {fault}\n  {there} of the {said} bytes of its {fork} are read"
+        )
     }
 }
 
