@@ -2,7 +2,8 @@
 
 Three forks of more than 100 resources are made from fixed numbers, and in each one byte of the map is changed, 300 times. Whatever `ls`
 refuses then is salvaged, and compared with the resources that were there: at least 95 of 100 are right on average. Before that come forks
-that aren't damaged, which are salvaged as they are, a type that is there twice, and what is odd about forks that can be read. The forks are
+that aren't damaged, which are salvaged as they are, a type that is there twice, and what is odd about forks that can be read; then
+containers with each kind of fault, of which both forks are had as far as their bytes are there, and files that aren't forks. The forks are
 written here, from the rules of docs/FORMAT.md.
 """
 import base64
@@ -15,7 +16,9 @@ import tempfile
 
 from checks.fork_questions import Difference
 from checks.forks import Choices, run
-from model.fork import FORMAT, MESSAGES, NoFork, Row, listing, read_fork
+from model.container import TOLD, NoContents, in_spite, resource_fork
+from model.contents import WRITERS, Contents
+from model.fork import FORMAT, MESSAGES, OTHER, NoFork, Row, listing, read_fork
 
 FORKS, CHANGES, SHARE = 3, 300, 0.95
 KINDS = [b"TEXT", b"STR ", b"CODE", b"ICN#", b"snd ", b"PAT#", b"vers", b"DITL"]
@@ -219,6 +222,133 @@ def try_lost_map(program, path):
     must(status == 0 and sizes == [1, 2, 3, 4], f"salvage wrote {text!r}")
 
 
+CONTAINERS = {"applesingle": "an AppleSingle file", "appledouble": "an AppleDouble file", "macbinary": "a MacBinary III file", "binhex": "a BinHex file"}
+
+
+def held_file():
+    """A file with both forks, of which the data fork has each byte and runs."""
+    rows = [Row(kind, 128 + it, b"n", 0, bytes([it] * 40 + [0x90, it])) for kind in (b"TEXT", b"STR ") for it in range(4)]
+    fork = written([(kind, [row for row in rows if row.kind == kind]) for kind in (b"TEXT", b"STR ")])
+    return Contents(b"Read me", b"TEXT", b"ttxt", 0x100, 3600000000, 3600000001, b"a comment", bytes(range(256)) * 2, fork), rows
+
+
+def spoiled(kind, file, choices):
+    """Files in a container of this kind with a fault: each with what is wrong."""
+    for at in sorted(choices.sample(range(len(file) // 3, len(file)), 12)):
+        yield f"cut at {at}", file[:at]
+    if kind in ("applesingle", "appledouble"):
+        entries = {struct.unpack(">I", file[at : at + 4])[0]: at for at in range(26, 26 + 12 * file[25], 12)}
+        for ident, at in entries.items():
+            yield f"entry {ident} outside", file[: at + 8] + struct.pack(">I", len(file)) + file[at + 12 :]
+        yield "a version that isn't known", file[:4] + b"\0\3" + file[6:]
+        yield "too many entries", file[:24] + b"\xff\xff" + file[26:]
+    elif kind == "macbinary":
+        for at in (2, 65, 91, 95, 99, 124):
+            yield f"a bit at {at}", file[:at] + bytes([file[at] ^ 1]) + file[at + 1 :]
+        yield "a longer data fork", file[:83] + struct.pack(">I", 1000) + file[87:]
+    else:
+        start = file.index(b"\n:") + 2
+        places = [at for at in range(start, len(file.rstrip()) - 1) if file[at] not in b"\n"]
+        for at in sorted(choices.sample(places, 60)):
+            for other in (b"~", b".", b"\xe9", b":", bytes([file[at] ^ 1])):
+                yield f"{other!r} at {at}", file[:at] + other + file[at + 1 :]
+        yield "no last colon", file.rstrip()[:-1]
+        yield "no first colon", file.replace(b"\n:", b"\n", 1)
+
+
+def try_spoiled(program, path, kind, what, file, rows):
+    """Compares what is salvaged of a file in a container with a fault. The result is whether its resources are all there."""
+    try:
+        resource_fork(file)
+        return False
+    except NoContents as fault:
+        told = TOLD[fault.args[0]]
+    data, resource = in_spite(file)
+    out, raw = path + ".out", path + ".raw"
+    for words, part, name in ((["--data", out], data, "data fork"), ([], resource, "resource fork"), (["-o", out], resource, "resource fork")):
+        if os.path.exists(out):
+            os.remove(out)
+        save(path, file)
+        status, output, said = run(program, ["salvage", path, *words])
+        begins = f"{path}: {CONTAINERS[kind]}: "
+        must(said.startswith(begins) and told.match(said, len(begins)), f"{what}: salvage {words} told {said!r}")
+        if part is None:
+            must((status, output) == (3, b"") and not os.path.exists(out), f"{what}: salvage {words} ended with {status} and wrote {output!r}")
+            continue
+        must(f"\n  {len(part[1])} of the {part[0]} bytes of its {name} are read\n" in said, f"{what}: salvage {words} told {said!r}")
+        if name == "data fork":
+            with open(out, "rb") as saved:
+                must((status, saved.read()) == (0, part[1]), f"{what}: salvage {words} wrote another data fork")
+            continue
+        save(raw, part[1])
+        alone = run(program, ["salvage", raw, *words[:-1], *([raw + ".out"] if words else [])])
+        if alone[0] == 0:
+            must((status, output) == alone[:2], f"{what}: salvage {words} ended with {status} and wrote {output!r}, and of the fork alone {alone}")
+    if resource is None or resource[1] != WHOLE:
+        return False
+    with open(out, "rb") as saved:
+        must([key(row) for row in read_fork(saved.read(), FORMAT)] == [key(row) for row in rows], f"{what}: other resources")
+    return True
+
+
+WHOLE = held_file()[0].resource
+
+
+def try_containers(program, path):
+    """Containers with faults: both forks are had as far as they are there, and the fault is named."""
+    it, rows = held_file()
+    choices, whole = random.Random(83), 0
+    for kind in CONTAINERS:
+        file = WRITERS[kind](it)
+        save(path, file)
+        # without a fault nothing is said, and the data fork is the whole
+        must(run(program, ["salvage", path]) == (0, listing(rows).encode(), ""), f"salvage of {kind} without a fault")
+        status, _, told = run(program, ["salvage", path, "--data", path + ".out"])
+        if kind == "appledouble":
+            must((status, told) == (3, f"{path}: an AppleDouble file: it has no data fork\n"), f"salvage --data of {kind} told {told!r}")
+        else:
+            with open(path + ".out", "rb") as saved:
+                must((status, told, saved.read()) == (0, "", it.data), f"salvage --data of {kind} ended with {status} and told {told!r}")
+        for what, changed in spoiled(kind, file, choices):
+            whole += try_spoiled(program, path, kind, f"{kind}, {what}", changed, rows)
+    must(whole > 100, f"only {whole} of the forks were whole")
+
+
+def not_forks():
+    """Files that aren't forks, with what is said of each."""
+    choices = random.Random(5)
+    text = b"Call me Ishmael. Some years ago - never mind how long precisely - having little or no money in my purse, " * 40
+    yield "a text", text, OTHER
+    yield "a short text", b"hello", OTHER
+    yield "zeros", bytes(5000), OTHER
+    for size in (17, 300, 5000, 100000):
+        yield f"{size} random bytes", choices.randbytes(size), OTHER
+    yield "an old StuffIt archive", b"SIT!" + bytes(6) + b"rLau" + choices.randbytes(500), "a StuffIt archive, which resfork doesn't unpack: unar -k hidden "
+    yield "a StuffIt archive", b"StuffIt (c)1997-1998 Aladdin Systems, Inc." + choices.randbytes(500), "a StuffIt archive, which resfork doesn't unpack: unar -k hidden "
+    yield "a disk image", bytes(1024) + b"BD" + choices.randbytes(3000), "a HFS volume, which resfork doesn't unpack: hmount "
+    yield "a DiskCopy image", b"\4Disk" + bytes(59) + choices.randbytes(18) + b"\1\0" + choices.randbytes(3000), "a DiskCopy 4.2 image, which resfork doesn't unpack: tail -c +85 "
+
+
+def try_not_forks(program, path):
+    """Files that aren't forks are refused in the words of `ls`, which name no place in them; nothing is written."""
+    out = path + ".out"
+    for what, file, told in not_forks():
+        save(path, file)
+        if os.path.exists(out):
+            os.remove(out)
+        for words in (["ls", path], ["salvage", path], ["salvage", path, "-o", out], ["salvage", path, "--data", out]):
+            status, output, said = run(program, words)
+            must((status, output) == (3, b"") and said.startswith(f"{path}: {told}") and said.count("\n") == 1, f"{what}: {words} ended with {status}, wrote {output[:200]!r} and told {said!r}")
+        must(not os.path.exists(out), f"{what}: something was written")
+    save(path, written([]))
+    status, output, said = run(program, ["salvage", path, "--data", out])
+    must((status, output, said) == (3, b"", f"{path}: a resource fork: it has no data fork\n"), f"salvage --data of a fork told {said!r}")
+    # a fork in which nothing is found: the header alone
+    save(path, struct.pack(">4I", 256, 512, 256, 100))
+    for words in ([], ["-o", out]):
+        must(run(program, ["salvage", path, *words]) == (3, b"", f"{path}: no resource can be read\n"), "salvage of a header alone")
+
+
 def main(program):
     """Tries all of it, and prints how much of damaged forks is read."""
     with tempfile.TemporaryDirectory() as folder:
@@ -229,7 +359,7 @@ def main(program):
                 choices = Choices(number)
                 rows = choices.rows()
                 try_whole(program, path, written(list(({kind: [Row(kind, *key(row)[1:]) for row in of_kind] for kind, of_kind in rows.items()}).items())))
-            for attempt in (try_twice, try_several_faults, try_odd, try_lost_map):
+            for attempt in (try_twice, try_several_faults, try_odd, try_lost_map, try_containers, try_not_forks):
                 what = attempt.__name__
                 attempt(program, path)
             counts, shares = [], []

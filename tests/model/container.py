@@ -126,6 +126,57 @@ def in_bin_hex(file, after):
     return fork
 
 
+# what is there in spite of a fault
+
+
+def apple_parts(file):
+    """Where the entries say that the data fork and the resource fork are: the first of each id, of those that are listed within the file."""
+    count = struct.unpack(">H", file[24:26])[0] if len(file) >= 26 else 0
+    places = range(26, min(26 + 12 * count, len(file) - 11), 12)
+    parts = {}
+    for kind, start, length in (struct.unpack(">III", file[at : at + 12]) for at in places):
+        parts.setdefault(kind, (start, length))
+    return [parts.get(kind) for kind in (1, 2)]
+
+
+def mac_binary_parts(file):
+    """Where the lengths in the header say that they are."""
+    data, resource = struct.unpack(">II", file[83:91])
+    start = 128 + -(-struct.unpack(">H", file[120:122])[0] // 128) * 128
+    return [(start, data), (start + -(-data // 128) * 128, resource)]
+
+
+def mended(text):
+    """A text with the digit of six zero bits for each character that is no digit, no blank and no end of a line, and for a colon before a digit."""
+    good = set(DIGITS) | set(b"\t\n\r ")
+    is_good = lambda at: text[at] in good or (text[at] == 58 and text[at + 1 : at + 2] not in map(bytes, zip(DIGITS)))
+    return bytes(text[at] if is_good(at) else min(DIGITS, key=DIGITS.get) for at in range(len(text)))
+
+
+def text_parts(values):
+    """Where the lengths in the header of what a text stands for say that they are."""
+    if len(values) < (values[0] if values else 0) + 20:
+        return [None, None]
+    start = values[0] + 22
+    data, resource = struct.unpack(">II", values[start - 10 : start - 2])
+    return [(start, data), (start + data + 2, resource)]
+
+
+def in_spite(file):
+    """The data fork and the resource fork of a file in a container, as far as its bytes reach: of each how many bytes it should have, and those
+    that are there; or None."""
+    if file[:4] in (b"\0\5\x16\0", b"\0\5\x16\7"):
+        parts = apple_parts(file)
+    elif mac_binary_version(file):
+        parts = mac_binary_parts(file)
+    else:
+        colon = re.compile(rb"(?:(?<=[\r\n])|\A)[\t ]*:").search(file, COMMENT.search(file).end())
+        file = decoded(mended(file[colon.end() :]), 0)[0] if colon else b""
+        parts = text_parts(file)
+    there = [part and (part[1], file[part[0] : part[0] + part[1]]) for part in parts]
+    return [part if part and part[1] else None for part in there]
+
+
 def has_fork_parts(file):
     """Whether the file has the header of a fork whose data and map lie within it, and isn't a text, which has no zero byte."""
     if len(file) < 16 or 0 not in file[:16]:

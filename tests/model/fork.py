@@ -25,12 +25,14 @@ TOLD = {
     "bytes": "too many bytes together",
 }
 
+# what is said of bytes of which nothing looks like a fork
+OTHER = "neither a resource fork nor a file that has one in it"
 # what is said of a fork of which a condition doesn't hold
 PART = r"the (?:{}) has \d+ bytes, and \d+ bytes are left in the {}\n  at \$[0-9A-F]{{6,}}"
 ROW = r"'.*' -?\d+: {} \d+, and \d+ bytes are left in the {}\n  at \$[0-9A-F]{{6,}}, reached from the reference at \$[0-9A-F]{{6,}}"
 MESSAGES = {
-    "end": PART.format("header", "fork"),
-    "parts": PART.format("data|map", "fork") + "|" + PART.format("header of the map", "map") + r"|the fork has \d+ bytes, and at most 4294967295 are read",
+    "end": PART.format("header", "fork") + "|" + OTHER,
+    "parts": OTHER + "|" + PART.format("data|map", "fork") + "|" + PART.format("header of the map", "map") + r"|the fork has \d+ bytes, and at most 4294967295 are read",
     "types": PART.format("count of types|type list", "map") + r"|'.*' is twice in the type list\n  at \$[0-9A-F]{6,}, first at \$[0-9A-F]{6,}",
     "references": r"'.*': the list of its references has \d+ bytes, and \d+ bytes are left in the map\n  at \$[0-9A-F]{6,}",
     "rows": r"there are \d+ resources in a map of \d+ bytes, and at most \d+ are read",

@@ -12,7 +12,7 @@ use Rattle.fork_bytes.specs.Fork.{IsForkWithin, RefusesWithin, format_limits}
 use Rattle.fork_salvage.specs.declared.fault.Fault.{Fault}
 use Rattle.fork_salvage.specs.Fault.{refusal_of}
 use Rattle.fork_salvage.proofs.Checked.{not_refused}
-use Rattle.mac_files.specs.declared.kind.FileKind.TheVariants.{BinHex}
+use Rattle.mac_files.specs.declared.kind.FileKind.TheVariants.{BinHex, Unknown}
 use Rattle.mac_files.specs.declared.old_file.FileFault.{FileFault}
 use Rattle.mac_files.specs.declared.old_file.FileFault.TheVariants.{Container, HostFull, Text}
 use Rattle.mac_files.specs.Kinds.{kind_of}
@@ -29,10 +29,10 @@ use Rattle.fork_report.specs.declared.damage.Damage.{Damage}
 use Rattle.fork_report.specs.declared.damage.Tally.{Tally}
 use Rattle.fork_report.specs.declared.refusal.Refusal.{Refusal}
 use Rattle.fork_report.specs.declared.refusal.Refusal.TheVariants as refusal
-use Rattle.fork_report.specs.Damage.{IsDamageOf, IsDamaged, is_readable, tally_of}
+use Rattle.fork_report.specs.Damage.{IsDamageOf, IsDamaged, is_of_fork, is_readable, tally_of}
 use Rattle.fork_report.specs.Inside.{IsInside, archive_inside}
-use Rattle.fork_report.specs.Refused.{IsCause, IsForkCause, IsNoFork, IsTakenForFork, IsToldDamaged, IsToldOf, IsToldOfFork, IsToldUnknown, begins_as_fork}
-use Rattle.fork_report.specs.Reported.{IsTaken, TellsLeft}
+use Rattle.fork_report.specs.Refused.{IsCause, IsForkCause, IsOther, IsTakenForFork, IsToldDamaged, IsToldOfFork, IsToldUnknown, begins_as_fork}
+use Rattle.fork_report.specs.Salvaged.{TellsLeft}
 
 refused : (file fork : List ℕ) (why : FileFault) → IsForkIn file fork → old_file file ≡ Err why → ⊥
 refused file fork why has lacks = cc (sym has ∙ ap fork_said lacks)
@@ -49,26 +49,30 @@ told_damaged file fault damage (refusal.Show (failure.Write why)) has taken is =
 told_damaged file fault damage (refusal.Container kept why) has taken is = absurd is
 told_damaged file fault damage (refusal.Archive archive) has taken is = absurd is
 told_damaged file fault damage (refusal.Inside archive) has taken is = absurd is
+told_damaged file fault damage (refusal.NoData name) has taken is = absurd is
 told_damaged file fault damage refusal.Nothing has taken is = absurd is
+told_damaged file fault damage (refusal.NothingLeft container) has taken is = absurd is
 told_damaged file fault damage refusal.TooMuch has taken is = absurd is
 told_damaged file fault damage (refusal.Unknown told) has taken is = absurd is
 told_damaged file fault damage refusal.NoHeader has taken is = absurd is
 
 -- that nothing is known of a file
-pub told_unknown : (file : List ℕ) (fault : ForkFault) (told : Refusal) → IsNoFork file → begins_as_fork file ≡ true → IsToldUnknown told → IsToldOfFork file fault told
-told_unknown file fault (refusal.Unknown text) none begins is = (none, begins)
-told_unknown file fault (refusal.Show failure.HostFull) none begins is = tt
-told_unknown file fault (refusal.Show (failure.NoFork why)) none begins is = absurd is
-told_unknown file fault (refusal.Show (failure.Fork why)) none begins is = absurd is
-told_unknown file fault (refusal.Show failure.NotFound) none begins is = absurd is
-told_unknown file fault (refusal.Show (failure.Write why)) none begins is = absurd is
-told_unknown file fault (refusal.Container kept why) none begins is = absurd is
-told_unknown file fault (refusal.Archive archive) none begins is = absurd is
-told_unknown file fault (refusal.Inside archive) none begins is = absurd is
-told_unknown file fault (refusal.Damaged text readable) none begins is = absurd is
-told_unknown file fault refusal.Nothing none begins is = absurd is
-told_unknown file fault refusal.TooMuch none begins is = absurd is
-told_unknown file fault refusal.NoHeader none begins is = absurd is
+pub other_unknown : (file : List ℕ) (damage : Damage) (told : Refusal) → damage.kind ≡ Unknown → is_of_fork damage ≡ false → begins_as_fork file ≡ true → IsToldUnknown told → IsOther file damage told
+other_unknown file damage (refusal.Unknown text) known none begins is = (known, none, begins)
+other_unknown file damage (refusal.Show failure.HostFull) known none begins is = tt
+other_unknown file damage (refusal.Show (failure.NoFork why)) known none begins is = absurd is
+other_unknown file damage (refusal.Show (failure.Fork why)) known none begins is = absurd is
+other_unknown file damage (refusal.Show failure.NotFound) known none begins is = absurd is
+other_unknown file damage (refusal.Show (failure.Write why)) known none begins is = absurd is
+other_unknown file damage (refusal.Container kept why) known none begins is = absurd is
+other_unknown file damage (refusal.Archive archive) known none begins is = absurd is
+other_unknown file damage (refusal.Inside archive) known none begins is = absurd is
+other_unknown file damage (refusal.Damaged text readable) known none begins is = absurd is
+other_unknown file damage (refusal.NoData name) known none begins is = absurd is
+other_unknown file damage refusal.Nothing known none begins is = absurd is
+other_unknown file damage (refusal.NothingLeft container) known none begins is = absurd is
+other_unknown file damage refusal.TooMuch known none begins is = absurd is
+other_unknown file damage refusal.NoHeader known none begins is = absurd is
 
 -- a file has a fork or lacks one, unless the host has no memory for that of a text
 pub apart : (file fork : List ℕ) (fault : NoFork) → kind_of file ≢ BinHex → IsForkIn file fork → IsNoForkIn file fault → ⊥
@@ -161,12 +165,3 @@ opened_cause file found (failure.Write fault) is cause = absurd cause
 pub not_damaged : (fork : List ℕ) (table : Table) → IsTableOf fork table → ¬ IsDamaged fork
 not_damaged fork table (inl none) = λ damaged. damaged.0 none.0
 not_damaged fork table (inr stands) = λ damaged. damaged.1 stands.0
-
--- a file of which it is reported that its fork is damaged
-pub taken_if : (file fork : List ℕ) (fault : ForkFault) (text : String Global) (readable : Bool) → IsForkIn file fork
-    → IsToldOf file (failure.Fork fault) (refusal.Damaged text readable) → IsTaken file fork
-taken_if file fork fork_fault.EndOfFile text readable has (other, damage, is, taken, rest) =
-    inr (damage, subst (λ (f : List ℕ). IsDamageOf file f damage) (same_fork file other fork is.found has) is, taken)
-taken_if file fork (fork_fault.BadMap condition) text readable has (other, damage, is, taken, rest) =
-    inr (damage, subst (λ (f : List ℕ). IsDamageOf file f damage) (same_fork file other fork is.found has) is, taken)
-taken_if file fork fork_fault.HostFull text readable has told = absurd (cc told)

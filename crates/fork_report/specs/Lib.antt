@@ -1,6 +1,7 @@
 pub mod Damage
 pub mod Refused
 pub mod Reported
+pub mod Salvaged
 pub mod Json
 pub mod Inside
 pub mod Digests

@@ -1,5 +1,5 @@
 -- Why nothing is reported of a file.
-use Rattle.std.specs.Prelude.{◌≡◌, ◌≢◌, ◌==◌, ◌||◌, nat_lt, length, take, ℕ, Bool, true, false, List, [], None, Some, ⊤}
+use Rattle.std.specs.Prelude.{◌≡◌, ◌≢◌, ◌⊎◌, ◌==◌, ◌||◌, nat_lt, length, take, ℕ, Bool, true, false, List, [], None, Some, ⊤}
 use Rattle.std.specs.List.{list_any}
 use Rattle.fork_bytes.specs.declared.fault.ForkFault.{ForkFault}
 use Rattle.fork_bytes.specs.declared.fault.ForkFault.TheVariants as fork_fault
@@ -7,7 +7,7 @@ use Rattle.fork_bytes.specs.Fork.{RefusesWithin, format_limits}
 use Rattle.mac_files.specs.declared.kind.FileKind.{FileKind}
 use Rattle.mac_files.specs.declared.kind.FileKind.TheVariants.{Archive as Holds, BinHex, Container as In, Unknown}
 use Rattle.mac_files.specs.declared.old_file.FileFault.TheVariants.{HostFull}
-use Rattle.mac_files.specs.Kinds.{kind_of, kind_text}
+use Rattle.mac_files.specs.Kinds.{is_known, kind_of, kind_text}
 use Rattle.fork_answer.specs.declared.answer.Failure.{Failure}
 use Rattle.fork_answer.specs.declared.answer.Failure.TheVariants as failure
 use Rattle.fork_answer.specs.declared.source.NoFork.TheVariants as no_fork
@@ -16,7 +16,7 @@ use Rattle.fork_report.specs.declared.damage.Damage.{Damage}
 use Rattle.fork_report.specs.declared.refusal.Refusal.{Refusal}
 use Rattle.fork_report.specs.declared.refusal.Refusal.TheVariants as refusal
 use Rattle.fork_report.specs.Inside.{IsInside}
-use Rattle.fork_report.specs.Damage.{IsDamageOf, is_of_fork, is_readable}
+use Rattle.fork_report.specs.Damage.{IsDamageOf, IsDamaged, is_of_fork, is_readable}
 
 -- a file of this kind is taken for one with a fork in it: it is known so, or it is no archive, and its bytes are those
 -- of a fork
@@ -33,6 +33,15 @@ IsNoFork file = (kind_of file ≡ Unknown) × ((fork : List ℕ) × (damage : Da
 -- a byte of its header is zero, as none of a text is, or the file ends within the header
 abbrev pub begins_as_fork : List ℕ → Bool
 begins_as_fork file = nat_lt (length file) 16 || list_any (λ byte. byte == 0) (take 16 file)
+
+-- why a file whose bytes have this damage as a fork isn't taken for one with a fork in it: it is an archive, or its bytes
+-- aren't those of a fork; or the host has no memory to say so
+abbrev pub IsOther : List ℕ → Damage → Refusal → Type 0
+IsOther file damage (refusal.Archive archive) = damage.kind ≡ Holds archive
+IsOther file damage (refusal.Unknown told) = (damage.kind ≡ Unknown) × (is_of_fork damage ≡ false) × (begins_as_fork file ≡ true)
+IsOther file damage refusal.NoHeader = (damage.kind ≡ Unknown) × (is_of_fork damage ≡ false) × (begins_as_fork file ≡ false)
+IsOther file damage (refusal.Show failure.HostFull) = ⊤
+IsOther file damage other = ⊥
 
 -- what is reported of a file whose fork is refused: the damage, that it is an archive, or that nothing is known of it;
 -- where the host has no memory for that, the fault alone
@@ -88,3 +97,20 @@ IsCause file (failure.Write fault) = ⊥
 -- nothing is reported of a file, for a cause, which is what is reported
 abbrev pub IsRefused : List ℕ → Refusal → Type 0
 IsRefused file told = (cause : Failure) × IsCause file cause × IsToldOf file cause told
+
+-- bytes look like a fork that is damaged
+abbrev pub LooksLikeFork : List ℕ → Type 0
+LooksLikeFork file = (fork : List ℕ) × (damage : Damage) × IsDamageOf file fork damage × IsTakenForFork (kind_of file) damage
+
+-- bytes are taken for a file with a fork in it: they are known as one, or are a fork that isn't damaged, or look like
+-- one that is
+abbrev pub IsTaken : List ℕ → Type 0
+IsTaken file = (is_known (kind_of file) ≡ true) ⊎ ((¬ IsDamaged file) ⊎ LooksLikeFork file)
+
+-- bytes are refused as those of another file: an archive, or nothing that looks like a fork; or the host has no memory
+abbrev pub IsRefusedAsOther : List ℕ → Refusal → Type 0
+IsRefusedAsOther file (refusal.Archive archive) = IsRefused file (refusal.Archive archive)
+IsRefusedAsOther file (refusal.Unknown told) = IsRefused file (refusal.Unknown told)
+IsRefusedAsOther file refusal.NoHeader = IsRefused file refusal.NoHeader
+IsRefusedAsOther file (refusal.Show failure.HostFull) = IsRefused file (refusal.Show failure.HostFull)
+IsRefusedAsOther file other = ⊥

@@ -14,6 +14,7 @@ mod paths;
 mod refusal;
 mod report;
 mod request;
+mod salvaged;
 
 pub use damage::Tally;
 pub use inside::{InsideNote, Opening, Operand, archive_inside};
@@ -22,5 +23,8 @@ pub use json_diff::difference_line;
 pub use json_row::{Bytes, Digests};
 pub use paths::each_line;
 pub use refusal::Refusal;
-pub use report::{Told, report_on, salvage, salvage_list};
+pub use report::{Told, report_on};
 pub use request::{Form, Report};
+pub use salvaged::{
+    ContainerDamage, DataSalvaged, ForkSalvaged, SalvageList, salvage, salvage_data, salvage_list,
+};

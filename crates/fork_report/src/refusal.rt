@@ -1,10 +1,12 @@
 //! Why nothing is shown of a file's fork.
 
-ghost use Rattle.std.specs.Prelude.{◌≡◌};
-ghost use Rattle.fork_report.specs.Refused.{IsToldDamaged, IsToldUnknown, IsToldOf, IsToldOfFork, begins_as_fork};
+ghost use Rattle.std.specs.Prelude.{◌≡◌, IfNone, IfSome};
+ghost use Rattle.mac_files.specs.Kinds.{kind_of};
+ghost use Rattle.fork_report.specs.Refused.{IsOther, IsRefusedAsOther, IsTaken, IsTakenForFork, IsToldDamaged, IsToldUnknown, IsToldOf, IsToldOfFork, begins_as_fork};
 
 use crate::damage::Damage;
 use crate::inside::archive_inside;
+use crate::salvaged::ContainerDamage;
 use fork_answer::{Failure, NoFork};
 use fork_bytes::fault::ForkFault;
 use mac_files::archive::Archive;
@@ -38,9 +40,15 @@ pub enum Refusal {
         told: String,
         is_readable: bool,
     },
+    /// It has no data fork. This is what the file is.
+    #[error("{0}: it has no data fork")]
+    NoData(&'static str),
     /// Nothing can be read of its fork.
     #[error("no resource can be read")]
     Nothing,
+    /// Nothing can be read of what is there of its fork.
+    #[error("{0}\n  no resource can be read")]
+    NothingLeft(ContainerDamage),
     /// Too much can be read for one fork.
     #[error("more can be read than one fork holds, 16777216 bytes of resources, and a map whose offsets have two bytes (5,458 resources without names): nothing is written; resfork salvage --list shows what there is")]
     TooMuch,
@@ -119,17 +127,29 @@ impl Refusal {
         let Some(damage) = Damage::of_file(alloc, file) else {
             return Refusal::Show(Failure::Fork(refusal));
         };
+        match Refusal::of_other(alloc, &damage, file) {
+            Some(refusal) => refusal,
+            None => Refusal::damaged(alloc, damage),
+        }
+    }
+
+    /// Why this file, whose bytes have this damage as a fork, isn't taken for one with a fork in it: it is an archive, or
+    /// nothing in it looks like a fork. None where it is taken for one.
+    fn of_other(alloc: Global, damage: &Damage, file: &[u8]) -> Option<Refusal>
+        ensures other { IfSome result (IsOther file.now damage.now) }
+        ensures taken { IfNone result (IsTakenForFork damage.now.kind damage.now) }
+    {
         match damage.kind {
-            FileKind::Container(_) | FileKind::BinHex => Refusal::damaged(alloc, damage),
-            FileKind::Archive(archive) => Refusal::Archive(archive),
-            FileKind::Unknown if damage.is_of_fork() => Refusal::damaged(alloc, damage),
-            FileKind::Unknown if !begins_as_fork(file) => Refusal::NoHeader,
-            FileKind::Unknown => Refusal::unknown(alloc, damage),
+            FileKind::Container(_) | FileKind::BinHex => None,
+            FileKind::Archive(archive) => Some(Refusal::Archive(archive)),
+            FileKind::Unknown if damage.is_of_fork() => None,
+            FileKind::Unknown if !begins_as_fork(file) => Some(Refusal::NoHeader),
+            FileKind::Unknown => Some(Refusal::unknown(alloc, damage)),
         }
     }
 
     /// That nothing is known of a file, and what of a fork it lacks.
-    fn unknown(alloc: Global, damage: Damage) -> Refusal
+    fn unknown(alloc: Global, damage: &Damage) -> Refusal
         ensures { IsToldUnknown result }
     {
         match format!(in alloc; "{damage}") {
@@ -150,4 +170,17 @@ impl Refusal {
             is_readable: damage.is_readable(),
         }
     }
+}
+
+/// Why these bytes, which are known as this, are taken for no file with a fork in it, if they aren't.
+pub(crate) fn other_than_fork(alloc: Global, kind: FileKind, bytes: &[u8]) -> Option<Refusal>
+    requires { kind ≡ kind_of bytes.now }
+    ensures other { IfSome result (IsRefusedAsOther bytes.now) }
+    ensures taken { IfNone result (IsTaken bytes.now) }
+{
+    if kind.is_known() || bytes.is_empty() {
+        return None;
+    }
+    let damage = Damage::of_file(alloc, bytes)?;
+    Refusal::of_other(alloc, &damage, bytes)
 }

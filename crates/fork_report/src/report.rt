@@ -1,32 +1,28 @@
-//! What the commands do that report on files: what each is, its faults, and what can be read of it.
+//! What the commands do that report on files: what each is, and its faults.
 
-ghost use Rattle.std.specs.Prelude.{◌≡◌, ◌≢◌, ◌↔◌, ℕ, List, [], IfErr, IfOk, IsTrue, None, Ok, OnOk, false, string_bytes};
-ghost use Rattle.fork_answer.specs.Lines.{salvage_listing};
+ghost use Rattle.std.specs.Prelude.{◌≡◌, ◌≢◌, ◌↔◌, ℕ, List, [], IfErr, IfOk, IsTrue, Ok, false, string_bytes};
 ghost use Rattle.mac_files.specs.Kinds.{kind_of};
 ghost use Rattle.mac_files.specs.OldFiles.{fork_of, kind_by, old_file, said_by};
 ghost use Rattle.fork_answer.specs.Source.{IsForkIn};
-ghost use Rattle.fork_report.specs.Damage.{IsDamaged, is_readable, tally_of};
+ghost use Rattle.fork_report.specs.Damage.{IsDamaged};
 ghost use Rattle.fork_report.specs.Refused.{IsForkCause, IsRefused};
 ghost use Rattle.fork_bytes.specs.declared.table.Table.{Table};
 ghost use Rattle.fork_answer.specs.Answer.{IsTableOf};
 ghost use Rattle.fork_report.specs.Digests.{digest_listing};
 ghost use Rattle.fork_report.specs.Inside.{HasArchive, archive_inside};
-ghost use Rattle.fork_report.specs.Reported.{HasTable, IsNotSalvaged, IsTaken, Salvages, Tells, TellsLeft, TellsOfFork};
+ghost use Rattle.fork_report.specs.Reported.{HasTable, Tells, TellsOfFork};
 
-use crate::damage::{MOST_FOUND, Tally, tally_of};
 use crate::digest::digest_listing;
 use crate::info::{info_text, opened};
 use crate::inside::archive_in;
 use crate::json::{check_line, info_line, list_line};
 use crate::json_row::{Bytes, Digests};
-use crate::refusal::Refusal;
+use crate::refusal::{Refusal, other_than_fork};
 use crate::request::{Form, Report};
 use fork_answer::request::Choice;
 use fork_answer::warning::{Warning, warnings};
-use fork_answer::{Failure, mended_fork, read_table, resource_fork, salvage_listing};
-use fork_bytes::fault::WriteFault;
-use fork_list::letters::Letters;
-use fork_salvage::{Fault, all_faults, first_fault};
+use fork_answer::{Failure, read_table, resource_fork};
+use fork_salvage::{Fault, all_faults};
 use mac_base::resource::ResType;
 use mac_files::OldFile;
 use mac_files::archive::Archive;
@@ -183,28 +179,10 @@ fn check(alloc: Global, form: Form, name: &str, bytes: &[u8]) -> Result<Told, Re
     ensures refused { IfErr result (IsRefused bytes.now) }
 {
     let found = fork_in(alloc, bytes)?;
-    check_taken(alloc, &found, bytes)?;
+    if let Some(refusal) = other_than_fork(alloc, found.kind(), bytes) {
+        return Err(refusal);
+    }
     check_fork(alloc, form, name, &found).map_err(|_| Refusal::Show(Failure::HostFull))
-}
-
-/// Refuses a file that isn't known to have a fork, as a list of it is refused, where its bytes aren't those of a fork,
-/// not of a damaged one either.
-fn check_taken(alloc: Global, found: &OldFile<'_>, bytes: &[u8]) -> Result<(), Refusal>
-    requires fork { IsForkIn bytes.now (fork_of found.now) }
-    requires kind { kind_by found.now ≡ kind_of bytes.now }
-    ensures taken { OnOk result (IsDamaged (fork_of found.now) → IsTaken bytes.now (fork_of found.now)) }
-    ensures refused { IfErr result (IsRefused bytes.now) }
-{
-    if found.kind().is_known() {
-        return Ok(());
-    }
-    let Err(fault) = read_table(alloc, found.fork()) else {
-        return Ok(());
-    };
-    match Refusal::of_failure(alloc, Failure::Fork(fault), bytes) {
-        Refusal::Damaged { .. } => Ok(()),
-        refusal => Err(refusal),
-    }
 }
 
 /// All faults of a fork. One without bytes has none.
@@ -255,46 +233,4 @@ fn check_text(alloc: Global, faults: &[Fault], warnings: &[Warning]) -> Result<S
         writeln!(text, "no fault")?;
     }
     Ok(text)
-}
-
-/// A line for each resource that can be read of a file's fork, and for each that can't.
-pub fn salvage_list(alloc: Global, letters: Letters, bytes: &[u8]) -> Result<String, Refusal>
-    ensures list { IfOk result (λ text. (fork : List ℕ) × IsForkIn bytes.now fork × (string_bytes text ≡ salvage_listing letters fork MOST_FOUND)) }
-    ensures refused { IfErr result (IsRefused bytes.now) }
-{
-    let found = fork_in(alloc, bytes)?;
-    match salvage_listing(alloc, letters, found.fork(), MOST_FOUND) {
-        Ok(text) => Ok(text),
-        Err(_) => Err(Refusal::Show(Failure::HostFull)),
-    }
-}
-
-/// How much can be read of a fork that is damaged; None of one that isn't. It is refused where no resource can be read.
-fn left_of(alloc: Global, fork: &[u8]) -> Result<Option<Tally>, Refusal>
-    ensures told { IfOk result (TellsLeft fork.now) }
-    ensures nothing { IfErr result (λ refusal. (refusal ≡ Refusal.Nothing) × IsDamaged fork.now × (is_readable (tally_of fork.now) ≡ false)) }
-{
-    if fork.is_empty() || first_fault(alloc, fork).is_none() {
-        return Ok(None);
-    }
-    let tally = tally_of(fork);
-    if !tally.is_some_and(Tally::is_readable) {
-        return Err(Refusal::Nothing);
-    }
-    Ok(tally)
-}
-
-/// A fork of all resources that can be read of a file's fork, and how many they are of how many, unless that is all.
-pub fn salvage(alloc: Global, bytes: &[u8]) -> Result<(Vec<u8>, Option<Tally>), Refusal>
-    ensures salvaged { IfOk result (λ salvaged. Salvages bytes.now salvaged.0.items salvaged.1) }
-    ensures refused { IfErr result (IsNotSalvaged bytes.now) }
-{
-    let found = fork_in(alloc, bytes)?;
-    let fork = found.fork();
-    let left = left_of(alloc, fork)?;
-    match mended_fork(alloc, fork) {
-        Ok(bytes) => Ok((bytes, left)),
-        Err(WriteFault::HostFull) => Err(Refusal::Show(Failure::HostFull)),
-        Err(WriteFault::TooBig) => Err(Refusal::TooMuch),
-    }
 }

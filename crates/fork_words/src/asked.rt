@@ -49,12 +49,22 @@ pub struct Reporting<'a> {
     pub titles: Titles,
 }
 
-/// What can be read of a damaged file, to be listed or to be written to a file of this name.
+/// What is salvaged of a damaged file.
+#[derive(Clone, Copy)]
+pub enum Salvage<'a> {
+    /// What can be read of its resource fork is listed, with letters shown so.
+    List(Letters),
+    /// It is written to a file of this name, as a fork.
+    Fork(&'a str),
+    /// The data fork is written to a file of this name.
+    Data(&'a str),
+}
+
+/// What is to be salvaged of a file.
 #[derive(Clone, Copy)]
 pub struct Salvaging<'a> {
     pub file: &'a str,
-    pub letters: Letters,
-    pub output: Option<&'a str>,
+    pub what: Salvage<'a>,
 }
 
 /// Resources of a file to be shown to people, on the standard output or in a file of this name.
@@ -72,7 +82,7 @@ pub enum Asked<'a> {
     Show(Showing<'a>),
     /// To report on files.
     Report(Reporting<'a>),
-    /// To list or to write what can be read of a damaged file.
+    /// To list or to write what can be read of a damaged file, or of one in a damaged container.
     Salvage(Salvaging<'a>),
     /// To show resources of a file to people.
     View(Viewing<'a>),
@@ -257,10 +267,14 @@ fn reported<'a>(
 fn asked_to_salvage<'a>(matches: &ArgMatches<'a>) -> Asked<'a>
     ensures { IsFit result }
 {
+    let what = match (matches.get_str("output"), matches.get_str("data")) {
+        (Some(output), _) => Salvage::Fork(output),
+        (None, Some(output)) => Salvage::Data(output),
+        (None, None) => Salvage::List(letters_of(matches)),
+    };
     Asked::Salvage(Salvaging {
         file: word(matches, "file"),
-        letters: letters_of(matches),
-        output: matches.get_str("output"),
+        what,
     })
 }
 

@@ -122,8 +122,10 @@ const COMMANDS: &[CommandText] = &[
     },
     CommandText {
         name: "salvage",
-        about: "Shows what can still be read of a damaged fork",
-        long_about: None,
+        about: "Shows what can still be read of a damaged file",
+        long_about: Some(
+            "Shows what can still be read of a damaged resource fork. Where the container is damaged, its fault is named, and the fork is read where the container says that it is, as far as its bytes are there",
+        ),
     },
     CommandText {
         name: "show",
@@ -227,6 +229,8 @@ const WORDS: &[Word] = &[
         "Lists types: a line for each, with how many resources it has"),
     word!("salvage", "list", Form::Long("list"), Values::Flag, rival: Some("output");
         "Lists what can be read, and why the rest can't be; so it does without -o"),
+    word!("salvage", "data", Form::Long("data"), Values::One("OUT"), rival: Some("list");
+        "The file that the bytes of the data fork are written to, as far as they are there"),
     word!("ls" "salvage", "raw", Form::Long("raw"), Values::Flag;
         "Shows letters that aren't ASCII as \\xHH, and not as the characters that they are in MacRoman"),
     word!("ls" "info" "check", "json", Form::Long("json"), Values::Flag;
@@ -279,7 +283,7 @@ const WORDS: &[Word] = &[
         "Puts the fork in a file like this one, in its container"),
     word!("get", "output", Form::Short('o', "output"), Values::One("OUT");
         "The file that the bytes are written to, in place of the standard output"),
-    word!("salvage", "output", Form::Short('o', "output"), Values::One("OUT");
+    word!("salvage", "output", Form::Short('o', "output"), Values::One("OUT"), rival: Some("data");
         "The file that a fork with all resources that can be read is written to"),
     word!("show", "output", Form::Short('o', "output"), Values::One("OUT");
         "The file that is written, in place of the standard output"),

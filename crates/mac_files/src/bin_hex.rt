@@ -1,7 +1,7 @@
 //! BinHex 4.0 (RFC 1741): a file with both its forks as a text of 64 characters.
 
 pub mod crc;
-mod decode;
+pub mod decode;
 mod digits;
 pub mod fault;
 pub mod file;
@@ -10,5 +10,6 @@ mod packed;
 mod read;
 mod runs;
 
-pub use find::is_bin_hex;
+pub use digits::digit_value;
+pub use find::{find_colon, is_bin_hex, is_skipped};
 pub use read::{most_of, read_bin_hex, read_bin_hex_within};

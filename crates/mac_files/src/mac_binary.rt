@@ -105,7 +105,7 @@ pub fn padded(length: usize) -> usize
 }
 
 /// Where the data fork is: after the header and the second header.
-fn data_fork(file: &[u8]) -> Part
+pub fn data_fork(file: &[u8]) -> Part
     requires { 128 ≤ length file.now }
     ensures part { result ≡ data_fork file.now }
     ensures offset { result.offset < 2 ^ 17 }

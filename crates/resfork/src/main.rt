@@ -22,14 +22,15 @@ use fork_answer::request::Request;
 use fork_answer::{Failure, read_table, resource_fork};
 use fork_bytes::table::{Row, Table};
 use fork_disk::{Record, Unknown};
+use fork_list::letters::Letters;
 use fork_report::{
-    Bytes, Digests, Form, InsideNote, Refusal, Report, Told, archive_inside, each_line,
-    refused_line, report_on, salvage, salvage_list,
+    Bytes, ContainerDamage, Digests, Form, InsideNote, Refusal, Report, Told, archive_inside,
+    each_line, refused_line, report_on, salvage, salvage_data, salvage_list,
 };
 use fork_view::unpack::unpack;
 use fork_view::{Chosen, NotShown, Sight, Unpacking, sight_of};
 use fork_words::asked::{
-    Asked, Command, NotAsked, Reporting, Salvaging, Showing, Titles, Viewing, asked_by,
+    Asked, Command, NotAsked, Reporting, Salvage, Salvaging, Showing, Titles, Viewing, asked_by,
 };
 use fork_words::{INPUT, work as asked_change};
 use host::Host;
@@ -311,18 +312,48 @@ fn salvage_file(host: &Host<'_>, asked: Salvaging<'_>) -> Result<u8, Problem>
     ensures { IfOk result (λ status. status ≡ DONE) }
 {
     let bytes = read(host, asked.file)?;
-    match asked.output {
-        Some(output) => save_salvaged(host, asked.file, &bytes, output)?,
-        None => write_text(host, &salvage_list(host.alloc(), asked.letters, &bytes)?)?,
+    match asked.what {
+        Salvage::List(letters) => write_salvaged(host, asked.file, letters, &bytes)?,
+        Salvage::Fork(output) => save_salvaged(host, asked.file, &bytes, output)?,
+        Salvage::Data(output) => save_data(host, asked.file, &bytes, output)?,
     }
     Ok(DONE)
 }
 
+/// Names the fault of the container of a file that is read in spite of it.
+fn tell_damage(host: &Host<'_>, file: &str, damage: Option<ContainerDamage>) {
+    if let Some(damage) = damage {
+        let file = FileName(file);
+        let _ = eprintln!(host.rt; "{file}: {damage}");
+    }
+}
+
+/// Lists what can be read of a file with these bytes.
+fn write_salvaged(
+    host: &Host<'_>,
+    file: &str,
+    letters: Letters,
+    bytes: &[u8],
+) -> Result<(), Problem> {
+    let listed = salvage_list(host.alloc(), letters, bytes)?;
+    tell_damage(host, file, listed.damage);
+    write_text(host, &listed.text)
+}
+
+/// Writes the data fork of a file with these bytes to another.
+fn save_data(host: &Host<'_>, file: &str, bytes: &[u8], output: &str) -> Result<(), Problem> {
+    let salvaged = salvage_data(host.alloc(), bytes)?;
+    save_to(host, output, salvaged.bytes())?;
+    tell_damage(host, file, salvaged.damage);
+    Ok(())
+}
+
 /// Writes what can be read of a file with these bytes to another.
 fn save_salvaged(host: &Host<'_>, file: &str, bytes: &[u8], output: &str) -> Result<(), Problem> {
-    let (fork, tally) = salvage(host.alloc(), bytes)?;
-    save_to(host, output, fork.as_slice())?;
-    if let Some(tally) = tally {
+    let salvaged = salvage(host.alloc(), bytes)?;
+    save_to(host, output, salvaged.bytes.as_slice())?;
+    tell_damage(host, file, salvaged.damage);
+    if let Some(tally) = salvaged.tally {
         let file = FileName(file);
         let output = FileName(output);
         let _ = eprintln!(host.rt; "{file}: {tally} can be read, and are written to {output}");

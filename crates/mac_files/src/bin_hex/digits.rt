@@ -23,8 +23,8 @@ const VALUES: [u8; 115] = [
     50, 51, 52, 53, 54, 64, 55, 56, 57, 58, 59, 60, 64, 64, 61, 62, 63,
 ];
 
-/// What a digit stands for.
-fn digit_value(character: u8) -> Option<u8>
+/// What a digit stands for, from 0 to 63, or None of a character that is no digit.
+pub fn digit_value(character: u8) -> Option<u8>
     ensures value { result ≡ digit_of character }
     ensures small { IfSome result (λ value. value < 64) }
 {

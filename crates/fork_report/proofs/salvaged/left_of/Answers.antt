@@ -4,7 +4,7 @@ use Rattle.fork_list.proofs.Reading.{some_if}
 use Rattle.fork_report.specs.declared.damage.Tally.{Tally}
 use Rattle.fork_report.specs.Damage.{is_readable}
 use Rattle.fork_report.proofs.Refusing.{faulty, told_left}
-use Rattle.fork_report.proofs.report.left_of.Goals as goal
+use Rattle.fork_report.proofs.salvaged.left_of.Goals as goal
 
 -- the answer of is_some_and
 readable_of : (tally : Option Tally) (answer : Bool) → MatchOption tally (answer ≡ false) (λ (some : Tally). answer ≡ is_readable (Some some)) → answer ≡ is_readable tally

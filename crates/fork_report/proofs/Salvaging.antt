@@ -1,0 +1,319 @@
+-- What is salvaged of a file, and why nothing is.
+use Rattle.std.proofs.Common.{◌≡◌, ◌≢◌, ◌⊎◌, inl, inr, ℕ, Bool, true, false, List, [], Option, None, Some, Result, Ok, Err, refl, sym, ap, ◌∙◌, subst}
+use Rattle.std.specs.Prelude.{option_map}
+use Rattle.std.specs.Result.{result_err}
+use Rattle.fork_bytes.specs.declared.fault.ForkFault.{ForkFault}
+use Rattle.fork_bytes.specs.declared.fault.ForkFault.TheVariants as fork_fault
+use Rattle.fork_salvage.specs.declared.fault.Fault.{Fault}
+use Rattle.fork_salvage.specs.declared.fault.Fault.TheVariants as fault
+use Rattle.fork_salvage.specs.Fault.{refusal_of}
+use Rattle.mac_files.specs.declared.bin_hex.fault.BinHexFault.{BinHexFault}
+use Rattle.mac_files.specs.declared.fault.ContainerFault.{ContainerFault}
+use Rattle.mac_files.specs.declared.kind.FileKind.{FileKind}
+use Rattle.mac_files.specs.declared.kind.FileKind.TheVariants.{Archive, BinHex, Container as In, Unknown}
+use Rattle.mac_files.specs.declared.old_file.FileFault.{FileFault}
+use Rattle.mac_files.specs.declared.old_file.FileFault.TheVariants.{Container, HostFull, Text}
+use Rattle.mac_files.specs.BinHex.{File, bin_hex_of}
+use Rattle.mac_files.specs.Containers.{fault_of}
+use Rattle.mac_files.specs.Kinds.{is_known, kind_of}
+use Rattle.mac_files.specs.OldFiles.{IsUnopened, Said, fork_said, old_file, read_as, told_by_text, unless_fault}
+use Rattle.mac_salvage.specs.InSpite.{Left, container_fault, forks_by_fault, forks_in_spite, whole_fork}
+use Rattle.fork_answer.specs.declared.answer.Failure.TheVariants as failure
+use Rattle.fork_answer.specs.declared.source.NoFork.{NoFork}
+use Rattle.fork_answer.specs.declared.source.NoFork.TheVariants as no_fork
+use Rattle.fork_answer.specs.Source.{IsForkIn, IsNoForkIn}
+use Rattle.fork_list.specs.declared.letters.Letters.{Letters}
+use Rattle.fork_report.specs.declared.damage.Damage.{Damage}
+use Rattle.fork_report.specs.declared.refusal.Refusal.{Refusal}
+use Rattle.fork_report.specs.declared.refusal.Refusal.TheVariants as refusal
+use Rattle.fork_report.specs.Damage.{IsDamageOf}
+use Rattle.fork_report.specs.Refused.{IsOther, IsRefused, IsRefusedAsOther, IsTakenForFork, IsToldOf, IsToldOfFork, LooksLikeFork}
+use Rattle.fork_report.specs.declared.salvaged.ContainerDamage.{ContainerDamage}
+use Rattle.fork_report.specs.Salvaged.{HasNothing, IsDataNotSalvaged, IsGone, IsNotListed, IsNotSalvaged, IsRefusedWhere, IsUnreadable, ListsNothing, nothing_left}
+
+-- Files that are known as none with a fork.
+
+known_alone : (k : FileKind) (file fork : List ℕ) → is_known k ≡ false → fork_said (read_as k file) ≡ Ok (Some fork) → fork ≡ file
+known_alone (In container) file fork unknown has = absurd (cc unknown)
+known_alone BinHex file fork unknown has = absurd (cc unknown)
+known_alone (Archive archive) file fork unknown has = sym (cc has)
+known_alone Unknown file fork unknown has = sym (cc has)
+
+pub fork_alone : (file fork : List ℕ) → is_known (kind_of file) ≡ false → IsForkIn file fork → fork ≡ file
+fork_alone file fork unknown has = known_alone (kind_of file) file fork unknown has
+
+known_in : (k : FileKind) (file : List ℕ) → is_known k ≡ false → fork_said (read_as k file) ≡ Ok (Some file)
+known_in (In container) file unknown = absurd (cc unknown)
+known_in BinHex file unknown = absurd (cc unknown)
+known_in (Archive archive) file unknown = refl
+known_in Unknown file unknown = refl
+
+pub alone_in : (file : List ℕ) → is_known (kind_of file) ≡ false → IsForkIn file file
+alone_in file unknown = known_in (kind_of file) file unknown
+
+known_text : (k : FileKind) → is_known k ≡ false → k ≢ BinHex
+known_text (In container) unknown = absurd (cc unknown)
+known_text BinHex unknown = absurd (cc unknown)
+known_text (Archive archive) unknown = λ is. absurd (cc is)
+known_text Unknown unknown = λ is. absurd (cc is)
+
+pub no_text : (file : List ℕ) → is_known (kind_of file) ≡ false → kind_of file ≢ BinHex
+no_text file unknown = known_text (kind_of file) unknown
+
+-- a fault of a fork isn't want of memory
+never_full : (f : Fault) → refusal_of f ≢ fork_fault.HostFull
+never_full (fault.Header gap) = λ is. absurd (cc is)
+never_full (fault.TooLong count) = λ is. absurd (cc is)
+never_full (fault.Data gap) = λ is. absurd (cc is)
+never_full (fault.Map gap) = λ is. absurd (cc is)
+never_full (fault.MapHeader gap) = λ is. absurd (cc is)
+never_full (fault.TypeCount gap) = λ is. absurd (cc is)
+never_full (fault.TypeList gap) = λ is. absurd (cc is)
+never_full (fault.SameType same) = λ is. absurd (cc is)
+never_full (fault.References list) = λ is. absurd (cc is)
+never_full (fault.RowCount excess) = λ is. absurd (cc is)
+never_full (fault.Name row) = λ is. absurd (cc is)
+never_full (fault.Length row) = λ is. absurd (cc is)
+never_full (fault.Bytes row) = λ is. absurd (cc is)
+never_full (fault.ByteCount row) = λ is. absurd (cc is)
+
+told_of_fork : (file : List ℕ) (f : ForkFault) (told : Refusal) → f ≢ fork_fault.HostFull → IsToldOfFork file f told → IsToldOf file (failure.Fork f) told
+told_of_fork file fork_fault.EndOfFile told other is = is
+told_of_fork file (fork_fault.BadMap condition) told other is = is
+told_of_fork file fork_fault.HostFull told other is = absurd (other refl)
+
+-- an archive, or nothing that looks like a fork
+pub told_other : (file : List ℕ) (f : ForkFault) (damage : Damage) (told : Refusal) → (fork : List ℕ) × IsDamageOf file fork damage → IsOther file damage told → IsToldOfFork file f told
+told_other file f damage (refusal.Archive archive) (fork, is_damage) is = sym is_damage.kind ∙ is
+told_other file f damage (refusal.Unknown text) (fork, is_damage) is = ((sym is_damage.kind ∙ is.0, (fork, damage, is_damage, is.1.0)), is.1.1)
+told_other file f damage refusal.NoHeader (fork, is_damage) is = ((sym is_damage.kind ∙ is.0, (fork, damage, is_damage, is.1.0)), is.1.1)
+told_other file f damage (refusal.Show failure.HostFull) has is = tt
+told_other file f damage (refusal.Show failure.NotFound) has is = absurd is
+told_other file f damage (refusal.Show (failure.NoFork lack)) has is = absurd is
+told_other file f damage (refusal.Show (failure.Fork why)) has is = absurd is
+told_other file f damage (refusal.Show (failure.Write why)) has is = absurd is
+told_other file f damage (refusal.Container container why) has is = absurd is
+told_other file f damage (refusal.Inside archive) has is = absurd is
+told_other file f damage (refusal.Damaged text readable) has is = absurd is
+told_other file f damage (refusal.NoData name) has is = absurd is
+told_other file f damage refusal.Nothing has is = absurd is
+told_other file f damage (refusal.NothingLeft container) has is = absurd is
+told_other file f damage refusal.TooMuch has is = absurd is
+
+cause_of : (file fork : List ℕ) (damage : Damage) (told : Refusal) → fork ≢ [] → IsDamageOf file fork damage → IsOther file damage told → IsRefused file told
+cause_of file fork damage told some is_damage is = (
+  failure.Fork (refusal_of damage.fault),
+  (fork, is_damage.found, (some, is_damage.refuses)),
+  told_of_fork file (refusal_of damage.fault) told (never_full damage.fault) (told_other file (refusal_of damage.fault) damage told (fork, is_damage) is),
+)
+
+as_other : (file : List ℕ) (damage : Damage) (told : Refusal) → IsOther file damage told → IsRefused file told → IsRefusedAsOther file told
+as_other file damage (refusal.Archive archive) is refused = refused
+as_other file damage (refusal.Unknown text) is refused = refused
+as_other file damage refusal.NoHeader is refused = refused
+as_other file damage (refusal.Show failure.HostFull) is refused = refused
+as_other file damage (refusal.Show failure.NotFound) is refused = absurd is
+as_other file damage (refusal.Show (failure.NoFork lack)) is refused = absurd is
+as_other file damage (refusal.Show (failure.Fork why)) is refused = absurd is
+as_other file damage (refusal.Show (failure.Write why)) is refused = absurd is
+as_other file damage (refusal.Container container why) is refused = absurd is
+as_other file damage (refusal.Inside archive) is refused = absurd is
+as_other file damage (refusal.Damaged text readable) is refused = absurd is
+as_other file damage (refusal.NoData name) is refused = absurd is
+as_other file damage refusal.Nothing is refused = absurd is
+as_other file damage (refusal.NothingLeft container) is refused = absurd is
+as_other file damage refusal.TooMuch is refused = absurd is
+
+pub refused_other : (file fork : List ℕ) (damage : Damage) (told : Refusal) → file ≢ [] → is_known (kind_of file) ≡ false → IsDamageOf file fork damage
+    → IsOther file damage told → IsRefusedAsOther file told
+refused_other file fork damage told some unknown is_damage is =
+    let same : fork ≡ file = fork_alone file fork unknown is_damage.found in
+    as_other file damage told is (cause_of file fork damage told (subst (λ (f : List ℕ). f ≢ []) (sym same) some) is_damage is)
+
+-- such a file is refused
+pub refused_as : (file : List ℕ) (told : Refusal) → IsRefusedAsOther file told → IsRefused file told
+refused_as file (refusal.Archive archive) is = is
+refused_as file (refusal.Unknown text) is = is
+refused_as file refusal.NoHeader is = is
+refused_as file (refusal.Show failure.HostFull) is = is
+refused_as file (refusal.Show failure.NotFound) is = absurd is
+refused_as file (refusal.Show (failure.NoFork lack)) is = absurd is
+refused_as file (refusal.Show (failure.Fork why)) is = absurd is
+refused_as file (refusal.Show (failure.Write why)) is = absurd is
+refused_as file (refusal.Container container why) is = absurd is
+refused_as file (refusal.Inside archive) is = absurd is
+refused_as file (refusal.Damaged text readable) is = absurd is
+refused_as file (refusal.NoData name) is = absurd is
+refused_as file refusal.Nothing is = absurd is
+refused_as file (refusal.NothingLeft container) is = absurd is
+refused_as file refusal.TooMuch is = absurd is
+
+pub taken_other : (file fork : List ℕ) (damage : Damage) → IsDamageOf file fork damage → IsTakenForFork damage.kind damage → LooksLikeFork file
+taken_other file fork damage is_damage taken = (fork, damage, is_damage, subst (λ (k : FileKind). IsTakenForFork k damage) is_damage.kind taken)
+
+-- Why a file is refused.
+
+pub told_no_fork : (gone : Type 0) (file : List ℕ) (lack : NoFork) (told : Refusal) → gone → IsNoForkIn file lack → IsToldOf file (failure.NoFork lack) told
+    → IsRefusedWhere gone file told
+told_no_fork gone file (no_fork.File HostFull) told is_gone lacks is =
+    subst (λ (r : Refusal). IsRefusedWhere gone file r) (sym is) (failure.NoFork (no_fork.File HostFull), lacks, refl)
+told_no_fork gone file (no_fork.File (Container why)) (refusal.Container container told) is_gone lacks is =
+    ((failure.NoFork (no_fork.File (Container why)), lacks, is), is_gone)
+told_no_fork gone file (no_fork.File (Container why)) (refusal.Show failed) is_gone lacks is = absurd is
+told_no_fork gone file (no_fork.File (Container why)) (refusal.Archive archive) is_gone lacks is = absurd is
+told_no_fork gone file (no_fork.File (Container why)) (refusal.Damaged told readable) is_gone lacks is = absurd is
+told_no_fork gone file (no_fork.File (Container why)) (refusal.NoData name) is_gone lacks is = absurd is
+told_no_fork gone file (no_fork.File (Container why)) refusal.Nothing is_gone lacks is = absurd is
+told_no_fork gone file (no_fork.File (Container why)) (refusal.NothingLeft damage) is_gone lacks is = absurd is
+told_no_fork gone file (no_fork.File (Container why)) refusal.TooMuch is_gone lacks is = absurd is
+told_no_fork gone file (no_fork.File (Container why)) (refusal.Unknown text) is_gone lacks is = absurd is
+told_no_fork gone file (no_fork.File (Container why)) refusal.NoHeader is_gone lacks is = absurd is
+told_no_fork gone file (no_fork.File (Container why)) (refusal.Inside archive) is_gone lacks is = absurd is
+told_no_fork gone file (no_fork.File (Text why)) (refusal.Container container told) is_gone lacks is =
+    ((failure.NoFork (no_fork.File (Text why)), lacks, is), is_gone)
+told_no_fork gone file (no_fork.File (Text why)) (refusal.Show failed) is_gone lacks is = absurd is
+told_no_fork gone file (no_fork.File (Text why)) (refusal.Archive archive) is_gone lacks is = absurd is
+told_no_fork gone file (no_fork.File (Text why)) (refusal.Damaged told readable) is_gone lacks is = absurd is
+told_no_fork gone file (no_fork.File (Text why)) (refusal.NoData name) is_gone lacks is = absurd is
+told_no_fork gone file (no_fork.File (Text why)) refusal.Nothing is_gone lacks is = absurd is
+told_no_fork gone file (no_fork.File (Text why)) (refusal.NothingLeft damage) is_gone lacks is = absurd is
+told_no_fork gone file (no_fork.File (Text why)) refusal.TooMuch is_gone lacks is = absurd is
+told_no_fork gone file (no_fork.File (Text why)) (refusal.Unknown text) is_gone lacks is = absurd is
+told_no_fork gone file (no_fork.File (Text why)) refusal.NoHeader is_gone lacks is = absurd is
+told_no_fork gone file (no_fork.File (Text why)) (refusal.Inside archive) is_gone lacks is = absurd is
+told_no_fork gone file no_fork.Absent (refusal.Container container told) is_gone lacks is = ((failure.NoFork no_fork.Absent, lacks, is), is_gone)
+told_no_fork gone file no_fork.Absent (refusal.Show failed) is_gone lacks is = absurd is
+told_no_fork gone file no_fork.Absent (refusal.Archive archive) is_gone lacks is = absurd is
+told_no_fork gone file no_fork.Absent (refusal.Damaged told readable) is_gone lacks is = absurd is
+told_no_fork gone file no_fork.Absent (refusal.NoData name) is_gone lacks is = absurd is
+told_no_fork gone file no_fork.Absent refusal.Nothing is_gone lacks is = absurd is
+told_no_fork gone file no_fork.Absent (refusal.NothingLeft damage) is_gone lacks is = absurd is
+told_no_fork gone file no_fork.Absent refusal.TooMuch is_gone lacks is = absurd is
+told_no_fork gone file no_fork.Absent (refusal.Unknown text) is_gone lacks is = absurd is
+told_no_fork gone file no_fork.Absent refusal.NoHeader is_gone lacks is = absurd is
+told_no_fork gone file no_fork.Absent (refusal.Inside archive) is_gone lacks is = ((failure.NoFork no_fork.Absent, lacks, is), is_gone)
+
+pub refused_where : (a b : Type 0) (file : List ℕ) (told : Refusal) → (a → b) → IsRefusedWhere a file told → IsRefusedWhere b file told
+refused_where a b file (refusal.Container container told) follows is = (is.0, follows is.1)
+refused_where a b file (refusal.Show failure.HostFull) follows is = is
+refused_where a b file (refusal.Show failure.NotFound) follows is = absurd is
+refused_where a b file (refusal.Show (failure.NoFork lack)) follows is = absurd is
+refused_where a b file (refusal.Show (failure.Fork why)) follows is = absurd is
+refused_where a b file (refusal.Show (failure.Write why)) follows is = absurd is
+refused_where a b file (refusal.Archive archive) follows is = is
+refused_where a b file (refusal.Damaged told readable) follows is = absurd is
+refused_where a b file (refusal.NoData name) follows is = absurd is
+refused_where a b file refusal.Nothing follows is = absurd is
+refused_where a b file (refusal.NothingLeft damage) follows is = absurd is
+refused_where a b file refusal.TooMuch follows is = absurd is
+refused_where a b file (refusal.Unknown text) follows is = is
+refused_where a b file refusal.NoHeader follows is = is
+refused_where a b file (refusal.Inside archive) follows is = (is.0, follows is.1)
+
+-- as another file
+pub other_where : (a : Type 0) (file : List ℕ) (told : Refusal) → IsRefusedAsOther file told → IsRefusedWhere a file told
+other_where a file (refusal.Container container told) is = absurd is
+other_where a file (refusal.Show failure.HostFull) is = is
+other_where a file (refusal.Show failure.NotFound) is = absurd is
+other_where a file (refusal.Show (failure.NoFork lack)) is = absurd is
+other_where a file (refusal.Show (failure.Fork why)) is = absurd is
+other_where a file (refusal.Show (failure.Write why)) is = absurd is
+other_where a file (refusal.Archive archive) is = is
+other_where a file (refusal.Damaged told readable) is = absurd is
+other_where a file (refusal.NoData name) is = absurd is
+other_where a file refusal.Nothing is = absurd is
+other_where a file (refusal.NothingLeft damage) is = absurd is
+other_where a file refusal.TooMuch is = absurd is
+other_where a file (refusal.Unknown text) is = is
+other_where a file refusal.NoHeader is = is
+other_where a file (refusal.Inside archive) is = absurd is
+
+pub not_listed : (letters : Letters) (file : List ℕ) (told : Refusal) → IsRefusedWhere (IsGone file (forks_in_spite file).resource_fork) file told → IsNotListed letters file told
+not_listed letters file (refusal.Container container told) is = is
+not_listed letters file (refusal.Show failed) is = is
+not_listed letters file (refusal.Archive archive) is = is
+not_listed letters file (refusal.Damaged told readable) is = is
+not_listed letters file (refusal.NoData name) is = is
+not_listed letters file refusal.Nothing is = absurd is
+not_listed letters file (refusal.NothingLeft damage) is = absurd is
+not_listed letters file refusal.TooMuch is = is
+not_listed letters file (refusal.Unknown text) is = is
+not_listed letters file refusal.NoHeader is = is
+not_listed letters file (refusal.Inside archive) is = is
+
+pub not_salvaged : (file : List ℕ) (told : Refusal) → IsRefusedWhere (IsGone file (forks_in_spite file).resource_fork) file told → IsNotSalvaged file told
+not_salvaged file (refusal.Container container told) is = is
+not_salvaged file (refusal.Show failed) is = is
+not_salvaged file (refusal.Archive archive) is = is
+not_salvaged file (refusal.Damaged told readable) is = is
+not_salvaged file (refusal.NoData name) is = is
+not_salvaged file refusal.Nothing is = absurd is
+not_salvaged file (refusal.NothingLeft damage) is = absurd is
+not_salvaged file refusal.TooMuch is = absurd is
+not_salvaged file (refusal.Unknown text) is = is
+not_salvaged file refusal.NoHeader is = is
+not_salvaged file (refusal.Inside archive) is = is
+
+pub data_not_salvaged : (file : List ℕ) (told : Refusal) → IsRefusedWhere (IsGone file (forks_in_spite file).data_fork) file told → IsDataNotSalvaged file told
+data_not_salvaged file (refusal.Container container told) is = is
+data_not_salvaged file (refusal.Show failed) is = is
+data_not_salvaged file (refusal.Archive archive) is = is
+data_not_salvaged file (refusal.Damaged told readable) is = is
+data_not_salvaged file (refusal.NoData name) is = absurd is
+data_not_salvaged file refusal.Nothing is = is
+data_not_salvaged file (refusal.NothingLeft damage) is = is
+data_not_salvaged file refusal.TooMuch is = is
+data_not_salvaged file (refusal.Unknown text) is = is
+data_not_salvaged file refusal.NoHeader is = is
+data_not_salvaged file (refusal.Inside archive) is = is
+
+-- What a fault of the container says.
+
+parts_never_full : (found : Option ContainerFault) (said : Said) → unless_fault found said ≡ Err HostFull → ⊥
+parts_never_full None said is = cc is
+parts_never_full (Some why) said is = cc is
+
+text_never_full : (found : Result File BinHexFault) → told_by_text found ≡ Err HostFull → ⊥
+text_never_full (Ok file) is = cc is
+text_never_full (Err why) is = cc is
+
+read_never_full : (k : FileKind) (file : List ℕ) → read_as k file ≡ Err HostFull → ⊥
+read_never_full (In container) file is = parts_never_full (fault_of container file) _ is
+read_never_full BinHex file is = text_never_full (bin_hex_of file) is
+read_never_full (Archive archive) file is = cc is
+read_never_full Unknown file is = cc is
+
+err_of : (read : Result Said FileFault) (why : FileFault) → result_err read ≡ Some why → read ≡ Err why
+err_of (Ok said) why is = absurd (cc is)
+err_of (Err other) why is = ap Err (cc is)
+
+unopened_as : (file : List ℕ) (why : FileFault) → read_as (kind_of file) file ≡ Err why → IsUnopened (kind_of file) file why
+unopened_as file HostFull is = absurd (read_never_full (kind_of file) file is)
+unopened_as file (Container why) is = is
+unopened_as file (Text why) is = is
+
+-- a file with a fault isn't opened
+pub unopened_by : (file : List ℕ) (why : FileFault) → container_fault file ≡ Some why → IsUnopened (kind_of file) file why
+unopened_by file why is = unopened_as file why (err_of (old_file file) why is)
+
+no_fork_of : (fork : Option (List ℕ)) → option_map whole_fork fork ≡ None → fork ≡ None
+no_fork_of None none = refl
+no_fork_of (Some bytes) none = absurd (cc none)
+
+absent_as : (file : List ℕ) (read : Result Said FileFault) → result_err read ≡ None → (forks_by_fault read file).resource_fork ≡ None → fork_said read ≡ Ok None
+absent_as file (Ok said) whole none = ap Ok (no_fork_of said.resource_fork none)
+absent_as file (Err why) whole none = absurd (cc whole)
+
+-- a file without a fault and without a fork
+pub absent_by : (file : List ℕ) → container_fault file ≡ None → (forks_in_spite file).resource_fork ≡ None → fork_said (old_file file) ≡ Ok None
+absent_by file whole none = absent_as file (old_file file) whole none
+
+-- Nothing is read of a fork.
+
+pub none_listed : (letters : Letters) (file : List ℕ) (damage : Option ContainerDamage) → HasNothing (ListsNothing letters) file damage → IsNotListed letters file (nothing_left damage)
+none_listed letters file None has = has
+none_listed letters file (Some damage) has = has
+
+pub none_salvaged : (file : List ℕ) (damage : Option ContainerDamage) → HasNothing IsUnreadable file damage → IsNotSalvaged file (nothing_left damage)
+none_salvaged file None has = has
+none_salvaged file (Some damage) has = has

@@ -1,0 +1,4 @@
+pub mod Texts
+pub mod Places
+pub mod InSpite
+pub mod Laws

@@ -1,0 +1,78 @@
+//! A BinHex text is read in spite of wrong characters.
+
+ghost use Rattle.std.specs.Prelude.{◌≡◌, false, true, vec_len, vec_capacity, IfOk, IfSome, MatchOption};
+ghost use Rattle.mac_salvage.specs.Texts.{begins_with_digit, belongs, bytes_left, is_digit, is_shut, mended, mended_character};
+
+use mac_files::bin_hex::decode::{Decoded, decode, decoded_length};
+use mac_files::bin_hex::{digit_value, find_colon, is_skipped, most_of};
+use std::alloc::{AllocError, Global};
+
+/// The digit that stands for six zero bits.
+const ZERO: u8 = b'!';
+
+/// Whether a character is one of the 64 digits.
+fn is_digit(character: u8) -> bool
+    ensures { result ≡ is_digit character }
+{
+    digit_value(character).is_some()
+}
+
+/// Whether a digit comes first.
+fn begins_with_digit(text: &[u8]) -> bool
+    ensures { result ≡ begins_with_digit text.now }
+{
+    match text.first() {
+        Some(character) => is_digit(*character),
+        None => false,
+    }
+}
+
+/// Whether a character belongs where it is, right before these: a digit, one that is skipped, or a colon that no digit
+/// follows.
+fn belongs(character: u8, rest: &[u8]) -> bool
+    ensures { result ≡ belongs character rest.now }
+{
+    is_digit(character) || is_skipped(character) || (character == b':' && !begins_with_digit(rest))
+}
+
+/// A character as it is read: one that belongs where it is as it is, and another as a digit.
+fn mended_character(character: u8, rest: &[u8]) -> u8
+    ensures { result ≡ mended_character character rest.now }
+{
+    if belongs(character, rest) {
+        character
+    } else {
+        ZERO
+    }
+}
+
+/// A text with a digit in place of each wrong character.
+fn mended(alloc: Global, text: &[u8]) -> Result<Vec<u8>, AllocError>
+    ensures { IfOk result (λ mended_text. mended_text.items ≡ mended text.now) }
+{
+    let mut characters = Vec::with_capacity(alloc, text.len())?;
+    for at in 0..text.len() {
+        characters.push_reserved(mended_character(text[at], &text[at + 1..]));
+    }
+    Ok(characters)
+}
+
+/// The bytes that a text stands for in spite of wrong characters, in a block of memory of just that size; None where no
+/// line begins with a colon, or it stands for more bytes than are read of it.
+pub fn bytes_left(alloc: Global, text: &[u8]) -> Result<Option<Vec<u8>>, AllocError>
+    ensures bytes { IfOk result (λ found. MatchOption found (is_shut text.now ≡ true) (λ bytes. (is_shut text.now ≡ false) × (bytes.items ≡ bytes_left text.now))) }
+    ensures memory { IfOk result (λ found. IfSome found (λ bytes. vec_capacity bytes ≡ vec_len bytes)) }
+{
+    let Some(colon) = find_colon(text) else {
+        return Ok(None);
+    };
+    let mended = mended(alloc, &text[colon + 1..])?;
+    let Some(count) = decoded_length(&mended, 0) else {
+        return Ok(None);
+    };
+    if most_of(text.len()) < count {
+        return Ok(None);
+    }
+    let Decoded { bytes, .. } = decode(alloc, &mended, 0, count)?;
+    Ok(Some(bytes))
+}
