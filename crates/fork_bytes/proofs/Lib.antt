@@ -16,6 +16,7 @@ mod Sized
 pub mod Plain
 pub mod Lists
 pub mod Faults
+pub mod Limiting
 pub mod Placing
 pub mod Sharing
 pub mod Distinct

@@ -8,7 +8,7 @@ use Rattle.fork_bytes.specs.declared.table.Table.{Table}
 use Rattle.fork_bytes.specs.Rows.{Row}
 use Rattle.fork_bytes.specs.declared.layout.Limits.{Limits}
 use Rattle.fork_bytes.specs.Laws.{IsRow}
-use Rattle.fork_bytes.specs.Written.{types_of, counted_before, datum, data_text, name_text, names_text, names_offset, reference_text, references_text, header_for, count_bytes, entries_text, types_text, map_header_text, map_text, plain_row, plain_rows, plain_table, NamesFit, FitsWithin, IsSmallWithin, IsTooBigWithin}
+use Rattle.fork_bytes.specs.Written.{types_of, counted_before, datum, data_text, name_text, names_text, names_offset, reference_text, references_text, header_for, count_bytes, entries_text, types_text, map_header_text, map_text, plain_row, plain_rows, plain_table, NamesFit, PlacesFit, FitsWithin, IsSmallWithin, IsTooBigWithin}
 use Rattle.fork_bytes.specs.Sizes.{text_length, data_size, map_size, sized_header, FitSizesWithin}
 use Rattle.fork_bytes.proofs.Steps.{drop_item, length-data}
 use Rattle.fork_bytes.proofs.Entries.{datum_long}
@@ -39,6 +39,12 @@ plain_fit text at (row ∷ rows) =
     let others = plain_fit text (at + length (name_text row.name)) rows in
     (λ fit. (fit.0, others.0 fit.1), λ fit. (fit.0, others.1 fit.1))
 
+plain_places : {X : Type 0} (text : X → List ℕ) (at : ℕ) (rows : List (Resource X)) → PlacesFit own at (plain_rows text rows) ↔ PlacesFit (text_length text) at rows
+plain_places text at [] = (λ fit. fit, λ fit. fit)
+plain_places text at (row ∷ rows) =
+    let others = plain_places text (at + (4 + length (text row.datum))) rows in
+    (λ fit. (fit.0, others.0 fit.1), λ fit. (fit.0, others.1 fit.1))
+
 plain_data : {X : Type 0} (text : X → List ℕ) (rows : List (Resource X)) → data_size own (plain_rows text rows) ≡ data_size (text_length text) rows
 plain_data text [] = refl
 plain_data text (row ∷ rows) = ap (λ (n : ℕ). 4 + length (text row.datum) + n) (plain_data text rows)
@@ -60,11 +66,11 @@ plain_header text rows =
 
 fit_plain : {X : Type 0} (limits : Limits) (text : X → List ℕ) (rows : List (Resource X)) → FitSizesWithin limits (text_length text) rows ↔ FitSizesWithin limits own (plain_rows text rows)
 fit_plain limits text rows =
-    let parts = plain_data text rows in let size = plain_map text rows in let offset = plain_offset text rows in let count = plain_count text rows in let names = plain_fit text 0 rows in (
+    let parts = plain_data text rows in let size = plain_map text rows in let offset = plain_offset text rows in let count = plain_count text rows in let names = plain_fit text 0 rows in let spots = plain_places text 0 rows in (
       λ fit. let few = fit.few_rows in let low = fit.lists in let bytes = fit.few_bytes in let small = fit.whole in
-          record { few_rows = omega arith; lists = omega arith; names = names.1 fit.names; few_bytes = omega arith; whole = omega arith },
+          record { few_rows = omega arith; lists = omega arith; names = names.1 fit.names; places = spots.1 fit.places; few_bytes = omega arith; whole = omega arith },
       λ fit. let few = fit.few_rows in let low = fit.lists in let bytes = fit.few_bytes in let small = fit.whole in
-          record { few_rows = omega arith; lists = omega arith; names = names.0 fit.names; few_bytes = omega arith; whole = omega arith },
+          record { few_rows = omega arith; lists = omega arith; names = names.0 fit.names; places = spots.0 fit.places; few_bytes = omega arith; whole = omega arith },
     )
 
 -- their map

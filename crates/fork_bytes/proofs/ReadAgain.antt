@@ -70,12 +70,12 @@ pub record IsWritten (limits : Limits) (table : Table) : Type 0 where
   pub is : IsTable table
   pub fits : FitsWithin limits table
   pub small : IsSmallWithin limits table
-  pub bytes : length (data_text table.rows) ≤ 16777216
+  pub bytes : length (data_text table.rows) ≤ 268435456
   pub parts : IsSmall table
   pub four : AreFour (types_of table.rows)
   pub few : length (types_of table.rows) ≤ length table.rows
 
-pub known : (limits : Limits) (table : Table) → limits.fork ≤ 4294967295 → limits.bytes ≤ 16777216 → IsTable table → FitsWithin limits table → IsSmallWithin limits table → IsWritten limits table
+pub known : (limits : Limits) (table : Table) → limits.fork ≤ 4294967295 → limits.bytes ≤ 268435456 → IsTable table → FitsWithin limits table → IsSmallWithin limits table → IsWritten limits table
 known limits table most_fork most_bytes is fits small =
     let four = four_bytes table.rows is.rows in
     let whole = length-written table four in let extra = is.extra in let fork = small.fork in let bytes = small.bytes in
@@ -134,7 +134,7 @@ all_stand limits table w =
       start = names_stand table w.fits.lists;
       each = w.is.rows;
       low = w.fits.names;
-      few = omega arith;
+      places = w.fits.places;
     }
 
 -- nothing is around the data

@@ -21,7 +21,7 @@ rows_for place (row ∷ rows) = row_at place row ∷ rows_for (place + length (d
 
 -- the length of a row's bytes is before them
 length_is : (parts before rest : List ℕ) (place : ℕ) (row : Row) → parts ≡ before ++ (datum row ++ rest) → length before ≡ place →
-    length row.datum ≤ 16777216 → datum_length parts place ≡ length row.datum
+    length row.datum ≤ 268435456 → datum_length parts place ≡ length row.datum
 length_is parts before rest place row is long few =
     let size = big_bytes 4 (length row.datum) in
     ap (number_at 4 place) (is ∙ ap (λ (xs : List ℕ). before ++ xs) (append_assoc size row.datum rest))
@@ -29,7 +29,7 @@ length_is parts before rest place row is long few =
 
 -- a row's bytes
 bytes_are : (parts before rest : List ℕ) (place : ℕ) (row : Row) → parts ≡ before ++ (datum row ++ rest) → length before ≡ place →
-    length row.datum ≤ 16777216 → row_with parts (row_at place row) ≡ row
+    length row.datum ≤ 268435456 → row_with parts (row_at place row) ≡ row
 bytes_are parts before rest place row is long few =
     let size = big_bytes 4 (length row.datum) in
     let split = is ∙ ap (λ (xs : List ℕ). before ++ xs) (append_assoc size row.datum rest) in
@@ -45,7 +45,7 @@ data_split parts before rest row rows is = is ∙ ap (λ (xs : List ℕ). before
 
 -- all rows
 pub rows_with_data : (parts before rest : List ℕ) (place : ℕ) (rows : List Row) → parts ≡ before ++ (data_text rows ++ rest) → length before ≡ place →
-    length (data_text rows) ≤ 16777216 → map (row_with parts) (rows_for place rows) ≡ rows
+    length (data_text rows) ≤ 268435456 → map (row_with parts) (rows_for place rows) ≡ rows
 rows_with_data parts before rest place [] is long few = refl
 rows_with_data parts before rest place (row ∷ rows) is long few =
     let split = data_split parts before rest row rows is in
@@ -57,7 +57,7 @@ rows_with_data parts before rest place (row ∷ rows) is long few =
 
 -- the data of each row lie within
 pub data_within : (parts before rest : List ℕ) (place : ℕ) (rows : List Row) → parts ≡ before ++ (data_text rows ++ rest) → length before ≡ place →
-    length (data_text rows) ≤ 16777216 → HasData parts (rows_for place rows)
+    length (data_text rows) ≤ 268435456 → HasData parts (rows_for place rows)
 data_within parts before rest place [] is long few = tt
 data_within parts before rest place (row ∷ rows) is long few =
     let split = data_split parts before rest row rows is in
@@ -74,7 +74,7 @@ data_within parts before rest place (row ∷ rows) is long few =
 
 -- together they are all data
 pub data_count : (parts before rest : List ℕ) (place : ℕ) (rows : List Row) → parts ≡ before ++ (data_text rows ++ rest) → length before ≡ place →
-    length (data_text rows) ≤ 16777216 → sum_by (λ (r : MapRow). 4 + datum_length parts r.datum) (rows_for place rows) ≡ length (data_text rows)
+    length (data_text rows) ≤ 268435456 → sum_by (λ (r : MapRow). 4 + datum_length parts r.datum) (rows_for place rows) ≡ length (data_text rows)
 data_count parts before rest place [] is long few = refl
 data_count parts before rest place (row ∷ rows) is long few =
     let split = data_split parts before rest row rows is in

@@ -9,9 +9,9 @@ use Rattle.byteorder.specs.Endian.{big_bytes}
 use Rattle.mac_base.specs.declared.resource.ResAttrs.{ResAttrs}
 use Rattle.fork_bytes.specs.Rows.{Row, MapRow}
 use Rattle.fork_bytes.specs.Fork.{Reference, number_at, bytes_at, name_list, name_place, name_at, map_row}
-use Rattle.fork_bytes.specs.Written.{datum, data_text, name_text, names_text, name_offset, reference_text, references_text, NamesFit}
+use Rattle.fork_bytes.specs.Written.{datum, name_text, names_text, name_offset, reference_text, references_text, NamesFit, PlacesFit}
 use Rattle.fork_bytes.specs.Laws.{IsRow}
-use Rattle.fork_bytes.proofs.Steps.{length-data}
+use Rattle.fork_bytes.proofs.Entries.{datum_long}
 use Rattle.fork_bytes.proofs.ReadBack.{number_in, bytes_in, byte_in, after, length-after}
 use Rattle.fork_bytes.proofs.ReadEntries.{references_for}
 use Rattle.fork_bytes.proofs.ReadData.{row_at, rows_for}
@@ -140,14 +140,13 @@ pub record AllStand (resource_map before rest early late : List ℕ) (at next pl
   pub start : name_list resource_map ≡ base
   pub each : AllByRecursion IsRow rows
   pub low : NamesFit next rows
-  pub few : place + length (data_text rows) ≤ 16777216
+  pub places : PlacesFit length place rows
 
 -- of the first
 first_stands : (resource_map before rest early late : List ℕ) (at next place base : ℕ) (row : Row) (rows : List Row) →
     AllStand resource_map before rest early late at next place base (row ∷ rows) →
     Stands resource_map before (references_text (next + length (name_text row.name)) (place + length (datum row)) rows ++ rest) early (names_text rows ++ late) at next place base row
 first_stands resource_map before rest early late at next place base row rows s =
-    let whole = length-data row rows in let few = s.few in
     record {
       is = references_split resource_map before rest next place row rows s.is;
       long = s.long;
@@ -156,7 +155,7 @@ first_stands resource_map before rest early late at next place base row rows s =
       start = s.start;
       id = s.each.0.id;
       low = s.low.0;
-      few = omega arith;
+      few = s.places.0;
     }
 
 -- of the others
@@ -166,7 +165,7 @@ others_stand : (resource_map before rest early late : List ℕ) (at next place b
 others_stand resource_map before rest early late at next place base row rows s =
     let text = reference_text next place row in
     let rest_text = references_text (next + length (name_text row.name)) (place + length (datum row)) rows in
-    let whole = length-append (datum row) (data_text rows) in let few = s.few in
+    let P : ℕ → Type 0 = λ n. PlacesFit length (place + n) rows in
     let long_name = length-after (base + next) (length (name_text row.name)) early (name_text row.name) s.long_names refl in
     record {
       is = after resource_map before text (rest_text ++ rest) (references_split resource_map before rest next place row rows s.is);
@@ -176,7 +175,7 @@ others_stand resource_map before rest early late at next place base row rows s =
       start = s.start;
       each = s.each.1;
       low = s.low.1;
-      few = omega arith;
+      places = subst P (sym (datum_long row)) s.places.1;
     }
 
 -- all rows

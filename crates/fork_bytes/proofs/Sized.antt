@@ -4,7 +4,7 @@ use Rattle.std.proofs.lemmas.Bool.{cases_lt}
 use Rattle.fork_bytes.specs.declared.table.Table.{Table}
 use Rattle.fork_bytes.specs.Rows.{Row}
 use Rattle.fork_bytes.specs.declared.layout.Limits.{Limits}
-use Rattle.fork_bytes.specs.Written.{types_of, data_text, header_for, written, FitsWithin, IsSmallWithin, IsTooBigWithin}
+use Rattle.fork_bytes.specs.Written.{types_of, data_text, header_for, written, PlacesFit, FitsWithin, IsSmallWithin, IsTooBigWithin}
 use Rattle.fork_bytes.specs.Sizes.{data_size, map_size, sized_header, FitSizesWithin}
 use Rattle.fork_bytes.proofs.Steps.{length-data}
 use Rattle.fork_bytes.proofs.Front.{same_header}
@@ -29,8 +29,13 @@ header_is rows =
     let parts = data_is rows in
     same_header 256 (256 + data_size own rows) (data_size own rows) (map_size rows) 256 (256 + length (data_text rows)) (length (data_text rows)) (map_size rows) refl (omega arith) parts refl
 
+-- each place is small where the data from the first one on are
+pub few_places : (at : ℕ) (rows : List Row) → at + length (data_text rows) ≤ 16777216 → PlacesFit length at rows
+few_places at [] few = tt
+few_places at (row ∷ rows) few = let whole = length-data row rows in (omega arith, few_places (at + (4 + length row.datum)) rows (omega arith))
+
 pub fits_of : (limits : Limits) (table : Table) → FitSizesWithin limits own table.rows → FitsWithin limits table
-fits_of limits table fit = record { few_rows = fit.few_rows; lists = fit.lists; names = fit.names }
+fits_of limits table fit = record { few_rows = fit.few_rows; lists = fit.lists; names = fit.names; places = fit.places }
 
 pub small_of : (limits : Limits) (table : Table) → length table.extra ≡ 240 → AreFour (types_of table.rows) → FitSizesWithin limits own table.rows → IsSmallWithin limits table
 small_of limits table extra four fit =
@@ -45,7 +50,7 @@ too_big_by limits table extra four none =
     let whole = length-written table four in let parts = data_is table.rows in
     ⊎_elim {C = IsTooBigWithin limits table} (λ large. inl large)
     (λ small. ⊎_elim {C = IsTooBigWithin limits table} (λ many. inr (inl many))
-    (λ few. inr (inr (λ fits. none (record { few_rows = fits.few_rows; lists = fits.lists; names = fits.names; few_bytes = omega arith; whole = omega arith }))))
+    (λ few. inr (inr (λ fits. none (record { few_rows = fits.few_rows; lists = fits.lists; names = fits.names; places = fits.places; few_bytes = omega arith; whole = omega arith }))))
     (cases_lt limits.bytes (length (data_text table.rows))))
     (cases_lt limits.fork (length (written table)))
 

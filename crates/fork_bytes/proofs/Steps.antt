@@ -6,7 +6,7 @@ use Rattle.byteorder.specs.Endian.{big_bytes}
 use Rattle.byteorder.specs.Numbers.{length-bytes_high_first}
 use Rattle.mac_base.specs.declared.resource.Resource.{Resource}
 use Rattle.fork_bytes.specs.Rows.{Row}
-use Rattle.fork_bytes.specs.Written.{datum, data_text, name_text, names_text, NamesFit}
+use Rattle.fork_bytes.specs.Written.{datum, data_text, name_text, names_text, NamesFit, PlacesFit}
 use Rattle.fork_bytes.specs.Sizes.{data_size}
 
 -- an element, and what follows it
@@ -74,6 +74,21 @@ fit_not rows i at row name within is named high fit =
     let Q : List (Resource _) → Type 0 = NamesFit at in
     let R : Option (List ℕ) → Type 0 = λ found. IfSome found (λ _. at ≤ 65534) in
     let low = subst R named (subst Q (drop_item rows i row within is) fit).0 in omega arith
+
+-- the places of data fit from a row on where its own does, and those of the others
+pub place_step : {X : Type 0} (long : X → ℕ) (rows : List (Resource X)) (i at next : ℕ) (row : Resource X) → i < length rows → row ≡ get_or rows i row → at < 16777216 → next ≡ at + (4 + long row.datum) →
+    PlacesFit long at (drop i rows) ↔ PlacesFit long next (drop (i + 1) rows)
+place_step long rows i at next row within is low after =
+    let item = drop_item rows i row within is in
+    let P : ℕ → Type 0 = λ n. PlacesFit long n (drop (i + 1) rows) in
+    let Q : List (Resource _) → Type 0 = PlacesFit long at in
+    (λ fit. subst P (sym after) (subst Q item fit).1, λ fit. subst Q (sym item) (low, subst P after fit))
+
+-- they don't where a datum is too far from the start
+pub place_not : {X : Type 0} (long : X → ℕ) (rows : List (Resource X)) (i at : ℕ) (row : Resource X) → i < length rows → row ≡ get_or rows i row → 16777216 ≤ at → ¬ PlacesFit long at (drop i rows)
+place_not long rows i at row within is high fit =
+    let Q : List (Resource _) → Type 0 = PlacesFit long at in
+    let low = (subst Q (drop_item rows i row within is) fit).0 in omega arith
 
 -- what a function makes of an element, and of those after it
 pub flat_step : {X : Type 0} (f : X → List ℕ) (xs : List X) (i : ℕ) (x : X) → i < length xs → x ≡ get_or xs i x → flat_map f (drop i xs) ≡ f x ++ flat_map f (drop (i + 1) xs)

@@ -153,10 +153,14 @@ max_rows = 8192
 abbrev pub macheap_limits : Limits
 macheap_limits = record { fork = max_fork; rows = max_rows; lists = MayOverlap; bytes = max_fork }
 
--- how much the format can say: a place in the fork has 4 bytes, and one in the data 3; so many bytes are the lengths of
--- so many rows; each row has 12 bytes of the map
+-- the most bytes of all resources of a fork, those of their lengths among them: a bound of this project's own
+abbrev pub max_bytes : ℕ
+max_bytes = 268435456
+
+-- how much the format can say: a place in the fork has 4 bytes, and one in the data 3, where so many rows begin that have
+-- no bytes in common; each row has 12 bytes of the map
 abbrev pub format_limits : Limits
-format_limits = record { fork = 4294967295; rows = 4194304; lists = HaveRoom; bytes = 16777216 }
+format_limits = record { fork = 4294967295; rows = 4194304; lists = HaveRoom; bytes = max_bytes }
 
 -- the most rows of a map of so many bytes, of which there are at most so many in any map
 abbrev pub rows_by : Lists → ℕ → ℕ → ℕ

@@ -8,7 +8,7 @@ use Rattle.fork_bytes.specs.declared.table.Table.{Table}
 use Rattle.mac_base.specs.declared.resource.Resource.{Resource}
 use Rattle.fork_bytes.specs.Rows.{Row}
 use Rattle.fork_bytes.specs.Fork.{max_fork, macheap_limits, format_limits, StandsFor, StandsForWithin}
-use Rattle.fork_bytes.specs.Written.{types_of, written, Fits, FitsWithin, IsSmallWithin}
+use Rattle.fork_bytes.specs.Written.{types_of, data_text, written, PlacesFit, Fits, FitsWithin, IsSmallWithin}
 
 -- rows of one type are together
 abbrev pub IsGrouped : List Row → Type 0
@@ -36,6 +36,10 @@ IsReadAgain = (table : Table) → IsTable table → Fits table → length (writt
 abbrev pub IsReadAgainWithin : Type 0
 IsReadAgainWithin = (limits : Limits) (table : Table) → limits.fork ≤ format_limits.fork → limits.bytes ≤ format_limits.bytes →
     IsTable table → FitsWithin limits table → IsSmallWithin limits table → StandsForWithin limits (written table) table
+
+-- each datum begins where three bytes can say, in data of so many bytes: in all that macheap writes
+abbrev pub ArePlacesLow : Type 0
+ArePlacesLow = (rows : List Row) → length (data_text rows) ≤ 16777216 → PlacesFit length 0 rows
 
 -- no bytes stand for two tables
 abbrev pub StandsForOne : Type 0

@@ -4,3 +4,4 @@ pub mod Written
 pub mod Laws
 pub mod Sizes
 pub mod Reading
+pub mod Over

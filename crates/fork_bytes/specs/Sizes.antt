@@ -3,7 +3,7 @@ use Rattle.std.specs.Prelude.{ℕ, ◌+◌, ◌≤◌, List, [], ◌∷◌, leng
 use Rattle.mac_base.specs.declared.resource.Resource.{Resource}
 use Rattle.fork_bytes.specs.declared.layout.Header.{Header}
 use Rattle.fork_bytes.specs.declared.layout.Limits.{Limits}
-use Rattle.fork_bytes.specs.Written.{names_offset, names_text, NamesFit}
+use Rattle.fork_bytes.specs.Written.{names_offset, names_text, NamesFit, PlacesFit}
 
 -- how many bytes a datum stands for
 abbrev pub text_length : {X : Type 0} → (X → List ℕ) → X → ℕ
@@ -27,10 +27,11 @@ sized_header long rows = record {
   map_length = map_size rows;
 }
 
--- the rows fit a fork: not too many, offsets that two bytes hold, and not too many bytes
+-- the rows fit a fork: not too many, offsets that two bytes hold, places that three do, and not too many bytes
 pub record FitSizesWithin {X : Type 0} (limits : Limits) (long : X → ℕ) (rows : List (Resource X)) : Type 0 where
   pub few_rows : length rows ≤ limits.rows
   pub lists : names_offset rows ≤ 65535
   pub names : NamesFit 0 rows
+  pub places : PlacesFit long 0 rows
   pub few_bytes : data_size long rows ≤ limits.bytes
   pub whole : 256 + data_size long rows + map_size rows ≤ limits.fork

@@ -113,12 +113,18 @@ abbrev pub NamesFit : {X : Type 0} → ℕ → List (Resource X) → Type 0
 NamesFit at [] = Unit {0}
 NamesFit at (row ∷ rows) = IfSome row.name (λ _. at ≤ 65534) × NamesFit (at + length (name_text row.name)) rows
 
--- The table fits a fork: not too many rows, and offsets that two bytes hold. Those of the references are less than the
--- name list's.
+-- three bytes hold the place of each datum in the data, where the first is at this one
+abbrev pub PlacesFit : {X : Type 0} → (X → ℕ) → ℕ → List (Resource X) → Type 0
+PlacesFit long at [] = Unit {0}
+PlacesFit long at (row ∷ rows) = (at < 16777216) × PlacesFit long (at + (4 + long row.datum)) rows
+
+-- The table fits a fork: not too many rows, offsets in the map that two bytes hold, and places in the data that three do.
+-- The offsets of the references are less than the name list's.
 pub record FitsWithin (limits : Limits) (table : Table) : Type 0 where
   pub few_rows : length table.rows ≤ limits.rows
   pub lists : names_offset table.rows ≤ 65535
   pub names : NamesFit 0 table.rows
+  pub places : PlacesFit length 0 table.rows
 
 -- The fork of the table has not too many bytes, and neither have its resources, each with its four bytes of length.
 pub record IsSmallWithin (limits : Limits) (table : Table) : Type 0 where

@@ -11,6 +11,9 @@ pub const MAX_FORK: usize = 0x40_0000;
 /// The most resources of a fork that macheap reads or writes.
 pub const MAX_ROWS: usize = 8192;
 
+/// The most bytes of all resources of a fork that is read or written, each with its four bytes of length.
+pub const MAX_BYTES: u32 = 0x1000_0000;
+
 /// How many bytes of the map a reference has.
 pub(crate) const REFERENCE_LENGTH: usize = 12;
 
@@ -46,13 +49,13 @@ impl Limits {
     };
 
     /// What the format can say. The places in a header have four bytes, and those of resources in the data have three.
-    /// Each resource has four bytes of length, and so these bytes are those of as many resources at most. Each has 12
-    /// bytes of the map too.
+    /// Each resource has four bytes of length, and so many begin there at most that have no bytes in common. Each has 12
+    /// bytes of the map too. How many bytes they have together is a bound of this project's own.
     pub const FORMAT: Limits = Limits {
         fork: 0xFFFF_FFFF,
         rows: 0x40_0000,
         lists: Lists::HaveRoom,
-        bytes: 0x100_0000,
+        bytes: MAX_BYTES,
     };
 
     /// The most resources of a fork with a map of so many bytes.

@@ -3,7 +3,7 @@
 ghost use Rattle.std.specs.Prelude.{◌≡◌, ◌<◌, ◌≤◌, ◌-◌, ◌∷◌, length, drop, slice_get, IfSome, IfNone};
 ghost use Rattle.std.specs.List.{AllByRecursion};
 ghost use Rattle.fork_bytes.specs.declared.layout.TypeCount.{TypeCount};
-ghost use Rattle.fork_bytes.specs.Written.{types_of, names_text, NamesFit};
+ghost use Rattle.fork_bytes.specs.Written.{types_of, names_text, NamesFit, PlacesFit};
 ghost use Rattle.fork_bytes.specs.Laws.{IsRow};
 ghost use Rattle.fork_bytes.specs.Sizes.{text_length, data_size, sized_header, FitSizesWithin};
 
@@ -17,6 +17,9 @@ const MAX_NAME_OFFSET: usize = 65534;
 
 /// The largest offset of a list in the map.
 const MAX_OFFSET: usize = 65535;
+
+/// The largest place of a datum in the data, for which a reference has three bytes.
+const MAX_PLACE: usize = 0xFF_FFFF;
 
 /// Where the data are in a fork that is written: after the header and the extra bytes.
 const DATA_OFFSET: u32 = 256;
@@ -53,15 +56,19 @@ pub(crate) fn type_count<D>(rows: &[Resource<D>]) -> usize
     count
 }
 
-/// How many bytes the data has, or None where it has more than these.
+/// How many bytes the data has, or None where it has more than these, or three bytes don't hold the place of a datum.
 fn data_length<D: Datum>(rows: &[Resource<D>], most: u32) -> Option<usize>
     ensures some { IfSome result (λ n. n ≡ data_size (text_length D.text) rows.now) }
     ensures small { IfSome result (λ n. n ≤ most) }
-    ensures none { IfNone result (most < data_size (text_length D.text) rows.now) }
+    ensures fit { IfSome result (λ _. PlacesFit (text_length D.text) 0 rows.now) }
+    ensures none { IfNone result (data_size (text_length D.text) rows.now ≤ most → ¬ PlacesFit (text_length D.text) 0 rows.now) }
 {
     let most = most as usize;
     let mut total = 0;
     for row in rows {
+        if total > MAX_PLACE {
+            return None;
+        }
         let count = row.datum.count();
         if count > most {
             return None;

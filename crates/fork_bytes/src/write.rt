@@ -303,7 +303,8 @@ pub fn write_rows<D: Datum>(
 /// lists follow each other in the order of the rows (Inside Macintosh: More Macintosh Toolbox, chapter 1, "Resource
 /// File Format"). Where the rows of each type are together, the bytes stand for the table: they are read as it. The
 /// fault is TooBig exactly where the fork would have more bytes than the limits allow, or the table has more rows, or
-/// its rows more bytes with four of length for each, or an offset in the map is too large for its two bytes.
+/// its rows more bytes with four of length for each, or an offset in the map is too large for its two bytes, or the
+/// place of a datum in the data for its three.
 pub fn write_fork_within(
     alloc: Global,
     limits: Limits,

@@ -1,7 +1,7 @@
-use Rattle.std.proofs.Common.{◌≡◌, subst, sym, ap, ◌∙◌}
+use Rattle.std.proofs.Common.{subst, sym, ap, ◌∙◌}
 use Rattle.fork_bytes.specs.declared.layout.Header.{Header}
 use Rattle.fork_bytes.specs.Fork.{data_of}
-use Rattle.fork_bytes.specs.Reading.{HasDatum, PlacedRow, IsWithin, placed_row, row_at}
+use Rattle.fork_bytes.specs.Reading.{HasDatum, PlacedRow, IsWithin, row_at}
 use Rattle.fork_bytes.proofs.Placing.{HasWholeData, length_outside, placed_in_fork, datum_within, on_err, row_is_at, row_is_within}
 use Rattle.fork_bytes.proofs.read.find_row.Goals as goal
 
