@@ -8,6 +8,7 @@ use crate::host::Host;
 use crate::input::{NotRead, read_all};
 use crate::message::{DONE, Problem};
 use crate::{TableUse, read, read_other, read_whole, unread, use_table};
+use fork_bytes::layout::MAX_BYTES;
 use fork_bytes::table::{Row, Table};
 use fork_edit::file::{NotWritten, with_table};
 use fork_folder::manifest::{Packing, manifest_of};
@@ -27,7 +28,7 @@ use std::io::{Error, ErrorKind, Read, Write};
 const MANIFEST: &str = "resources.json";
 
 /// The most bytes that the resources of a fork have together.
-const MOST_BYTES: usize = 16_777_216;
+const MOST_BYTES: usize = MAX_BYTES as usize;
 
 /// The bytes of files, by their paths.
 type Files = BTreeMap<String, Vec<u8>>;
