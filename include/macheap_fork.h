@@ -1,6 +1,8 @@
 /* The resource forks of the classic Macintosh, for programs in C and C++: the bytes of a fork are read, a fork is
  * written for resources, and nothing is kept. Each function that reads is given all bytes of a fork, and reads them
- * anew. Each answers with an OSErr: 0 (noErr) or a negative code, after which nothing was written. What each says of
+ * anew. Each answers with an OSErr: 0 (noErr) or a negative code, after which nothing was written. A fork is too big
+ * with more than 4194304 bytes, or more than 8192 resources, or where these with 4 bytes each for their length have
+ * more than 4194304; if it is damaged, too, its first fault decides, in the order of docs/FORMAT.md. What each says of
  * the bytes is what the project's contracts say: crates/fork_c/specs, and docs/FORMAT.md.
  *
  * What the caller promises, and nothing tests: a pointer is not null, is aligned, and leads to what its type and the
@@ -30,7 +32,8 @@ enum {
     MF_PARAM_ERR = -50,     /* there are more bytes than that, or fewer; or what is to be written is no table */
     MF_MEM_FULL_ERR = -108, /* the host has no memory */
     MF_RES_NOT_FOUND = -192,
-    MF_MAP_READ_ERR = -199  /* the bytes are no fork */
+    MF_MAP_READ_ERR = -199, /* the bytes are no fork */
+    MF_TOO_BIG = -1001      /* no code of a Macintosh: the fork is bigger than these functions read */
 };
 
 /* A resource. Attributes: 64 system heap, 32 purgeable, 16 locked, 8 protected, 4 preload, 2 changed, added. */

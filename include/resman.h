@@ -46,7 +46,8 @@ enum {
     MR_ADD_RES_FAILED = -194,
     MR_RMV_RES_FAILED = -196,
     MR_RES_ATTR_ERR = -198, /* the resource's attributes forbid the call */
-    MR_MAP_READ_ERR = -199  /* the resource map is damaged */
+    MR_MAP_READ_ERR = -199, /* the resource map is damaged */
+    MR_TOO_BIG = -1001      /* no code of a Macintosh: the fork is bigger than mr_open takes */
 };
 
 /* Resource files, or none. Its fields are the library's. */
@@ -63,8 +64,10 @@ MhErr mr_begin(MrFiles *files);
 MhErr mr_end(MrFiles *files);
 
 /* Opens a file on a copy of this fork, and makes it the current one: OpenResFile. No bytes are a file without
- * resources; others that are no fork are eofErr or mapReadErr. Its number is `file`, the first from 1 to 255 of which
- * no file is open: 255 files at most are open at a time, or it is tmfoErr. */
+ * resources; others that are no fork are eofErr or mapReadErr. It is MR_TOO_BIG where the fork has more than 4194304
+ * bytes, or more than 8192 resources, or these with 4 bytes each for their length have more than 4194304, and it isn't
+ * damaged in what is looked at before that. Its number is `file`, the first from 1 to 255 of which no file is open: 255
+ * files at most are open at a time, or it is tmfoErr. */
 MhErr mr_open(MrFiles *files, MhZone *zone, const uint8_t *fork, size_t length, uint32_t *file);
 /* How many bytes the fork of a file has now, and a copy of them, for the host to write: after an update they are the
  * new fork's. After mr_close_res_file they are there until the number is used again. paramErr where `length` is

@@ -74,6 +74,8 @@ built partial -O1 -fsanitize=address,undefined
 "$room/partial"
 built many_files -O1 -fsanitize=address,undefined
 "$room/many_files"
+built limits -O1 -fsanitize=address,undefined
+"$room/limits"
 built traps -O1 -fsanitize=address,undefined
 "$room/traps"
 built threads -O1 -fsanitize=address,undefined -pthread

@@ -20,7 +20,7 @@ from checks.kept import DAMAGED, KEPT, write
 from checks.shown import fork_of, must
 from model.change import Missing, Taken, changed, copied, place, put, remove, rest, set_row, table_of
 from model.container import resource_fork
-from model.fork import WORDS, NoFork, Row, column, quoted
+from model.fork import WORDS, NoFork, Row, column, listing, quoted
 from places import TOP
 
 RAW = (lambda fork: fork, "a resource fork", 0)
@@ -438,8 +438,45 @@ def try_lines(program, folder):
     new = os.path.join(folder, "new")
     compare("put --create", run(program, ["put", "--create", new, "TEXT", "1"], b"Hi"), 0, b"+ TEXT 1\n", "")
     must(table_of(read(new))[0] == [(b"TEXT", 1, None, 0, b"Hi")], "put --create: other resources are read")
-    big = run(program, ["put", new, "TEXT", "2"], bytes(16777216))
-    must(big[0] == 4 and "16777216 bytes" in big[2], f"a resource too big: {big[0]}, {big[2]!r}")
+
+
+def holds(program, path, rows):
+    """All that can be said of a fork with these resources: their list, and the bytes of each."""
+    compare(f"ls of {path}", run(program, ["ls", path]), 0, listing(rows).encode(), "")
+    for row in rows:
+        got = run(program, ["get", path, row.kind.decode(), str(row.ident)])
+        must(got == (0, row.data, ""), f"get {row.ident} of {path}: status {got[0]}, {len(got[1])} bytes, {got[2]!r}")
+
+
+def try_long(program, folder):
+    """Resources of more bytes than the three of a place can say: they are read and written, if each begins where these can say."""
+    path, out = (os.path.join(folder, it) for it in ("long", "long.out"))
+    one = Row(b"TEXT", 1, None, 0, b"Long".ljust(16777300, b"."))
+    write(path, fork_of([one]))
+    holds(program, path, [one])
+    for container in ("applesingle", "appledouble", "macbinary"):
+        made = run(program, ["convert", path, out, "--to", container, "--lossy"])
+        must(made[0] == 0, f"convert to {container}: {made}")
+        holds(program, out, [one])
+        os.remove(out)
+    compare("salvage", run(program, ["salvage", path]), 0, listing([one]).encode(), "")
+    must(run(program, ["salvage", path, "-o", out])[0] == 0, "salvage -o of a long resource")
+    holds(program, out, [one])
+    before, small = state(path), Row(b"AAAA", 1, None, 0, b"Hi")
+    big = run(program, ["put", path, "TEXT", "2"], b"Hi")
+    must(big[:2] == (4, b"") and "the first 16777216 bytes" in big[2], f"a resource too far away: {big}")
+    must(state(path) == before, "a resource too far away: the file is touched")
+    # the first that three bytes can't say is 4 bytes after so many
+    for count, status in ((16777211, 0), (16777212, 4)):
+        first, second = Row(b"TEXT", 1, None, 0, bytes(count)), Row(b"TEXT", 2, None, 0, b"Hi")
+        write(out, fork_of([first]))
+        got = run(program, ["put", out, "TEXT", "2"], b"Hi")
+        must(got[0] == status, f"a resource after one of {count} bytes: {got}")
+        holds(program, out, [first] if status else [first, second])
+    # one that comes before the long one, as its type does
+    write(out, fork_of([small, one]))
+    must(run(program, ["put", out, "AAAA", "2"], b"Ho")[0] == 0, "a resource before a long one")
+    holds(program, out, [small, Row(b"AAAA", 2, None, 0, b"Ho"), one])
 
 
 def lines_of_session():
@@ -495,6 +532,8 @@ def main(program, count=150):
             what = "the command lines"
             os.mkdir(os.path.join(folder, "lines"))
             try_lines(program, os.path.join(folder, "lines"))
+            what = "long resources"
+            try_long(program, os.path.join(folder, "lines"))
             what = "many resources"
             try_many(program, os.path.join(folder, "lines"))
             for number in range(1, 1 + count):

@@ -24,8 +24,8 @@ OTHER = 12345
 SECONDS, BYTES = 1.0, 48 << 20
 # the bytes that a program gets at most
 MOST = 4 << 30
-# the most bytes that the resources of a fork have, and that a BinHex text stands for which has at most a third of them
-FORK, UNPACKED = 16777216, 64 << 20
+# the most bytes that a BinHex text stands for which has at most a third of them
+UNPACKED = 64 << 20
 
 
 def swapping(folder, elsewhere, names, go):
@@ -160,7 +160,7 @@ def try_pack(program, room):
         compare(f"pack of {count} times {size} bytes", spent(program, ["pack", "-q", folder, out], files), status, b"", told)
     with open(one, "wb") as file:
         file.truncate(1 << 40)
-    compare("pack of a file that is too long", spent(program, ["pack", "-q", folder, out], FORK), 4, b"", "TEXT/1.bin is longer than the limit of 1073741824 bytes")
+    compare("pack of a file that is too long", spent(program, ["pack", "-q", folder, out], 0), 4, b"", "TEXT/1.bin is longer than the limit of 1073741824 bytes")
     os.remove(one)
     os.mkfifo(one)
     compare("pack of a pipe", spent(program, ["pack", "-q", folder, out], 0), 4, b"", "TEXT/1.bin can't be read: it is no regular file")

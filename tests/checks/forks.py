@@ -189,9 +189,9 @@ def limits():
         yield f"{count} rows", one_map([(b"TEXT", count)], reference * count)
     # one list of references for each of 65 types, which are more than the map has room for
     yield "4,259,775 rows", one_list(65, 65535, reference)
-    # 1 MB, and a byte more, so often that macheap's limit is reached, and the format's
+    # 1 MB, and a byte more, so often that macheap's limit is reached, and resfork's
     for length in (1048572, 1048573):
-        for count in (4, 16):
+        for count in (4, 256):
             yield f"{count} rows of {length} bytes", one_datum(length, count)
     small = one_map([(b"TEXT", 1)], reference)
     yield "4,194,304 bytes", small.ljust(MOST_BYTES, b"\0")

@@ -10,7 +10,7 @@ MOST_ROWS = 8192
 # the most bytes of a fork, the most rows, the most bytes of all rows, and how many bytes of the map there must be for each row: for macheap,
 # and for resfork, which reads what the format can say
 MACHEAP = (MOST_BYTES, MOST_ROWS, MOST_BYTES, 0)
-FORMAT = (4294967295, 4194304, 16777216, 12)
+FORMAT = (4294967295, 4194304, 268435456, 12)
 WORDS = [(128, "bit7"), (64, "sysHeap"), (32, "purgeable"), (16, "locked"), (8, "protected"), (4, "preload"), (2, "changed"), (1, "bit0")]
 
 # the conditions in the order in which they are looked at, in words
@@ -38,7 +38,7 @@ MESSAGES = {
     "rows": r"there are \d+ resources in a map of \d+ bytes, and at most \d+ are read",
     "names": ROW.format("its name with its byte of length has", "map"),
     "places": ROW.format("(?:the bytes of its length are|its length is)", "data"),
-    "bytes": ROW.format("the bytes of the resources up to it are", "16777216 that are read"),
+    "bytes": ROW.format("the bytes of the resources up to it are", "268435456 that are read"),
 }
 MESSAGES = {condition: re.compile(told) for condition, told in MESSAGES.items()}
 

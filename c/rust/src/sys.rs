@@ -49,6 +49,7 @@ pub const MR_ADD_RES_FAILED: i16 = -194;
 pub const MR_RMV_RES_FAILED: i16 = -196;
 pub const MR_RES_ATTR_ERR: i16 = -198;
 pub const MR_MAP_READ_ERR: i16 = -199;
+pub const MR_TOO_BIG: i16 = -1001;
 pub const MH_PARAM_ERR: i16 = -50;
 pub const MH_MEM_FULL_ERR: i16 = -108;
 pub const MH_NIL_HANDLE_ERR: i16 = -109;

@@ -44,7 +44,7 @@ fn readable(alloc: Global, fork: &[u8]) -> Result<Vec<FoundRow>, WriteFault>
     Ok(rows)
 }
 
-/// Whether resources have at most 16,777,216 bytes together, those of their lengths among them.
+/// Whether resources have at most 268,435,456 bytes together, those of their lengths among them.
 fn has_few_bytes(rows: &[FoundRow]) -> bool
     requires { length rows.now ≤ format_limits.rows }
     ensures few { result ≡ nat_le (byte_count rows.now) format_limits.bytes }
@@ -118,7 +118,7 @@ fn table_of<'a>(alloc: Global, fork: &'a [u8], rows: &[FoundRow]) -> Result<Tabl
 
 /// The table of all resources that can be read of a fork: those of each type together, in the order of the first of
 /// each, and within a type in their own order. The extra bytes and the map's attributes are as they can be read, and
-/// else zero. The fault is TooBig where more than 4,194,304 resources can be read, or they have more than 16,777,216
+/// else zero. The fault is TooBig where more than 4,194,304 resources can be read, or they have more than 268,435,456
 /// bytes with their lengths.
 pub fn salvaged_table<'a>(alloc: Global, fork: &'a [u8]) -> Result<Table<'a>, WriteFault>
     ensures table { IfOk result (λ table. table ≡ salvaged_table fork.now) }

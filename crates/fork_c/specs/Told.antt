@@ -2,27 +2,33 @@
 use Rattle.std.specs.Prelude.{◌≡◌, ◌⊎◌, ℕ, ℤ, pos, ◌==◌, if◌then◌else◌, List, [], length, Option, Some, None, is_some, option_map, unwrap_or, Result, Ok, Err}
 use Rattle.std.specs.List.{slice_get, slice_index}
 use Rattle.std.specs.Option.{ok_or}
-use Rattle.mac_base.specs.Codes.{code_of}
+use Rattle.mac_base.specs.Codes.{code_of, minus}
 use Rattle.mac_base.specs.declared.error.OsErr.{OsErr}
 use Rattle.mac_base.specs.declared.error.OsErr.TheVariants.{EofErr, MapReadErr, MemFullErr, ParamErr, ResNotFound}
 use Rattle.fork_bytes.specs.declared.fault.ForkFault.{ForkFault}
 use Rattle.fork_bytes.specs.declared.fault.ForkFault.TheVariants.{EndOfFile, BadMap, HostFull}
 use Rattle.fork_bytes.specs.Fork.{IsFork, Refuses, table_of}
+use Rattle.fork_bytes.specs.Over.{IsOver}
 use Rattle.fork_bytes.specs.Rows.{Row}
 use Rattle.fork_bytes.specs.declared.table.Table.{Table}
 use Rattle.fork_c.specs.declared.given.MfExtra.{MfExtra}
 use Rattle.fork_c.specs.declared.rows.MfRow.{MfRow}
 use Rattle.fork_c.specs.declared.rows.MfType.{MfType}
 
--- the code of a fault of the bytes: eofErr, mapReadErr, or memFullErr
-abbrev pub code_of_fault : ForkFault → OsErr
-code_of_fault EndOfFile = EofErr
-code_of_fault (BadMap condition) = MapReadErr
-code_of_fault HostFull = MemFullErr
+-- the code of a fork that has more bytes or resources than macheap reads, which no call of a Macintosh gives
+abbrev pub too_big : ℤ
+too_big = minus 1001
+
+-- The code of a fault of the bytes: eofErr; that they have more than macheap reads, exactly where they do, and else
+-- mapReadErr; or memFullErr.
+abbrev pub IsCodeOf : List ℕ → ForkFault → ℤ → Type 0
+IsCodeOf fork EndOfFile code = code ≡ code_of EofErr
+IsCodeOf fork (BadMap condition) code = (IsOver fork × (code ≡ too_big)) ⊎ ((¬ IsOver fork) × (code ≡ code_of MapReadErr))
+IsCodeOf fork HostFull code = code ≡ code_of MemFullErr
 
 -- The bytes aren't read as a fork, and this is the code of a fault that they have.
 abbrev pub IsRefused : List ℕ → ℤ → Type 0
-IsRefused fork code = (fault : ForkFault) × Refuses fork fault × (code ≡ code_of (code_of_fault fault))
+IsRefused fork code = (fault : ForkFault) × Refuses fork fault × IsCodeOf fork fault code
 
 -- what is found is shown; else there is the refusal's code, and what was there stays
 abbrev pub Shows : {A : Type 0} → Result A OsErr → ℤ → A → A → Type 0

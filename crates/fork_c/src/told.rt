@@ -2,15 +2,18 @@
 
 ghost use Rattle.std.specs.Prelude.{◌≡◌, ◌≤◌, length, IfOk, IfErr};
 ghost use Rattle.std.specs.List.{flat_map};
-ghost use Rattle.fork_bytes.specs.Fork.{max_fork, max_rows, StandsFor};
+ghost use Rattle.fork_bytes.specs.Fork.{max_fork, max_rows, Refuses, StandsFor};
 ghost use Rattle.fork_bytes.specs.Rows.{Row};
-ghost use Rattle.fork_c.specs.Told.{IsRefused, Shows, code_of_fault, sized};
+ghost use Rattle.fork_c.specs.Told.{IsCodeOf, IsRefused, Shows, sized};
 
 use fork_bytes::fault::ForkFault;
-use fork_bytes::read_fork;
 use fork_bytes::table::Table;
+use fork_bytes::{is_over_by, read_fork};
 use mac_base::error::{NO_ERR, OsErr};
 use std::alloc::Global;
+
+/// The code of a fork that has more bytes or resources than macheap reads.
+const TOO_BIG: i16 = -1001;
 
 /// The table that bytes stand for, or the code that C gets.
 #[tactic(auto, using(crate::proofs::Pieces::few_bytes, crate::proofs::Pieces::few_rows))]
@@ -22,18 +25,21 @@ pub(crate) fn read<'a>(alloc: Global, fork: &'a [u8]) -> Result<Table<'a>, i16>
 {
     match read_fork(alloc, fork) {
         Ok(table) => Ok(table),
-        Err(fault) => Err(code_of_fault(fault).code()),
+        Err(fault) => Err(code_of_fault(fork, fault)),
     }
 }
 
 /// The code of a fault of the bytes.
-fn code_of_fault(fault: ForkFault) -> OsErr
-    ensures { result ≡ code_of_fault fault }
+fn code_of_fault(fork: &[u8], fault: ForkFault) -> i16
+    requires { Refuses fork.now fault }
+    ensures { IsCodeOf fork.now fault result }
 {
+    let is_over = is_over_by(fork, fault);
     match fault {
-        ForkFault::EndOfFile => OsErr::EofErr,
-        ForkFault::BadMap(_) => OsErr::MapReadErr,
-        ForkFault::HostFull => OsErr::MemFullErr,
+        ForkFault::EndOfFile => OsErr::EofErr.code(),
+        ForkFault::BadMap(_) if is_over => TOO_BIG,
+        ForkFault::BadMap(_) => OsErr::MapReadErr.code(),
+        ForkFault::HostFull => OsErr::MemFullErr.code(),
     }
 }
 

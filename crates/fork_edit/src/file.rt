@@ -35,7 +35,7 @@ pub enum NotWritten {
     #[error("{0}")]
     Text(BinHexFault),
     /// The table is too big.
-    #[error("more than a resource fork can say: 16777216 bytes of resources, of which each takes 4 more, or names and ids that end 65535 bytes after the type list")]
+    #[error("more than a resource fork can say: each resource begins in the first 16777216 bytes of them all, where each takes 4 more; all have 268435456 at most; and names and ids end 65535 bytes after the type list at most")]
     TooBig,
     /// The container can't hold the fork.
     #[error("{0}")]

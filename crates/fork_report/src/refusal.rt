@@ -50,7 +50,7 @@ pub enum Refusal {
     #[error("{0}\n  no resource can be read")]
     NothingLeft(ContainerDamage),
     /// Too much can be read for one fork.
-    #[error("more can be read than one fork holds, 16777216 bytes of resources, and a map whose offsets have two bytes (5,458 resources without names): nothing is written; resfork salvage --list shows what there is")]
+    #[error("more can be read than one fork holds, 268435456 bytes of resources, each of which begins in the first 16777216, and a map whose offsets have two bytes (5,458 resources without names): nothing is written; resfork salvage --list shows what there is")]
     TooMuch,
     /// It is nothing that is known.
     #[error("neither a resource fork nor a file that has one in it: {0}")]

@@ -73,7 +73,7 @@ pub enum Fault {
     Length(BadRow),
     /// The bytes of a resource end outside of the data. The place is that of their length.
     Bytes(BadRow),
-    /// The resources as far as this one have more than 16,777,216 bytes together: so many are wanted.
+    /// The resources as far as this one have more than 268,435,456 bytes together: so many are wanted.
     ByteCount(BadRow),
 }
 
@@ -167,7 +167,7 @@ impl fmt::Display for Fault {
                 f,
                 row,
                 "the bytes of the resources up to it are",
-                "16777216 that are read",
+                "268435456 that are read",
             ),
         }
     }

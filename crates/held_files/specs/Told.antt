@@ -3,6 +3,7 @@ use Rattle.std.specs.Int.{from_be_bytes, w32}
 use Rattle.std.specs.Prelude.{◌≡◌, ◌⊎◌, ◌==◌, ◌++◌, ℕ, ℤ, pos, nat_lt, if◌then◌else◌, List, [], ◌∷◌, drop, length, Option, Some, None, Ok, MatchBool, option_and_then, option_map, unwrap_or}
 use Rattle.held_files.specs.Forks.{ForksState, fork_of_number, free_number, HasFork, HasNoForks, without_handles}
 use Rattle.held_files.specs.Making.{MakesResource, SeeksOnForks}
+use Rattle.fork_bytes.specs.Over.{IsOver}
 use Rattle.held_zone.specs.State.{State}
 use Rattle.held_zone.specs.Told.{Makes, code_told, no_zone, number_told}
 use Rattle.mac_base.specs.Codes.{minus}
@@ -74,15 +75,23 @@ InfoTold old old_files h code before info new new_files = MatchBool (nat_lt (len
     ((code ≡ minus 50) × (info ≡ before) × (new ≡ old) × (new_files ≡ old_files))
     ((outcome : Option Outcome) × (code ≡ code_told outcome) × (info ≡ info_told before outcome) × ResourceCalled old old_files (GetResInfo h) outcome new new_files)
 
--- The file of a number, of which none is open, gets this fork and is opened, and C gets its number. There is no such
--- number, and the answer is tmfoErr; or the host has no memory for a copy of the fork, and it is memFullErr: both
--- change nothing.
+-- The file of a number, of which none is open, gets this fork and is opened, and C gets its number. The host has no
+-- memory for a copy of the fork, and the answer is memFullErr: that changes nothing.
+abbrev pub GivesFork : ℕ → State → ForksState → Disk → ℤ → ℕ → ℕ → State → ForksState → Type 0
+GivesFork k old old_files fork code before number new new_files =
+    ((code ≡ minus 108) × (number ≡ before) × (new ≡ old) × (new_files ≡ old_files))
+    ⊎ ((outcome : Outcome) × (code ≡ code_told (Some outcome)) × (number ≡ number_told before (Some outcome))
+    × ((given : ForksState) × HasFork k fork old_files given × MakesResource old given (OpenResFile k) outcome new new_files))
+
+-- The file of the first number of which none is open gets this fork and is opened. There is no such number, and the
+-- answer is tmfoErr; or the host has no memory, and it is memFullErr; or exactly where the fork has more bytes or
+-- resources than macheap reads, the code says so: these change nothing.
 abbrev pub OpensFork : Option ℕ → State → ForksState → Disk → ℤ → ℕ → ℕ → State → ForksState → Type 0
 OpensFork None old old_files fork code before number new new_files = (code ≡ minus 42) × (number ≡ before) × (new ≡ old) × (new_files ≡ old_files)
 OpensFork (Some k) old old_files fork code before number new new_files =
     ((code ≡ minus 108) × (number ≡ before) × (new ≡ old) × (new_files ≡ old_files))
-    ⊎ ((outcome : Outcome) × (code ≡ code_told (Some outcome)) × (number ≡ number_told before (Some outcome))
-    × ((given : ForksState) × HasFork k fork old_files given × MakesResource old given (OpenResFile k) outcome new new_files))
+    ⊎ (IsOver fork × (code ≡ minus 1001) × (number ≡ before) × (new ≡ old) × (new_files ≡ old_files))
+    ⊎ ((¬ IsOver fork) × GivesFork k old old_files fork code before number new new_files)
 
 -- C opens a file on a copy of a fork.
 abbrev pub OpenTold : Option State → Option ForksState → Disk → ℤ → ℕ → ℕ → Option State → Option ForksState → Type 0

@@ -6,6 +6,7 @@ ghost use Rattle.mac_base.specs.Released.{disposed_by, disposed_in};
 ghost use Rattle.res_files.specs.Standing.{most_files};
 ghost use Rattle.res_table.specs.OpenFiles.{is_open};
 
+use fork_bytes::is_over;
 use fork_disk::MemDisk;
 use fork_disk::store::PlainStore;
 use held_calls::answers::{Carried, MOST_ASKS, MadeAsk};
@@ -49,6 +50,9 @@ impl Drop for ForkFiles {
 /// tmfoErr: as many files are open as can be.
 const TOO_MANY_FILES: i16 = -42;
 
+/// The code of a fork that has more bytes or resources than macheap reads.
+const TOO_BIG: i16 = -1001;
+
 /// The handle of which a call of an answer disposed, where it was carried out.
 fn disposed_by(carried: &Carried) -> Option<Handle>
     ensures { result ≡ disposed_by carried.now }
@@ -82,7 +86,7 @@ fn no_stores(alloc: Global) -> Result<Vec<PlainStore<MemDisk>>, HostFull>
 
 impl ForkFiles {
     ghost use Rattle.std.specs.Prelude.{IsSome, OnErr, filter_map};
-    ghost use Rattle.held_files.specs.Told.{Disposes, OpensFork};
+    ghost use Rattle.held_files.specs.Told.{Disposes, GivesFork, OpensFork};
     ghost use Rattle.held_files.specs.Forks.{HasNoForks, without_handles};
     ghost use Rattle.held_files.specs.Making.{HasNoMemory, MakesResource, SeeksOnForks, StepsOnForks};
 
@@ -132,7 +136,8 @@ impl ForkFiles {
     }
 
     /// Gives a copy of a fork to the first number of which no file is open, and opens that file. Its number is written,
-    /// and the code returned.
+    /// and the code returned: `TOO_BIG` exactly where the fork has more than macheap reads, if there is a number and the
+    /// host has memory.
     pub fn open(
         &mut self,
         alloc: Global,
@@ -145,6 +150,28 @@ impl ForkFiles {
         let Some(free) = self.free_number() else {
             return TOO_MANY_FILES;
         };
+        let Ok(over) = is_over(alloc, fork) else {
+            return OsErr::MemFullErr.code();
+        };
+        if over {
+            return TOO_BIG;
+        }
+        self.open_as(alloc, session, free, fork, number)
+    }
+
+    /// Gives a copy of a fork to a number of which no file is open, and opens that file.
+    fn open_as(
+        &mut self,
+        alloc: Global,
+        session: &mut Session,
+        free: u8,
+        fork: &[u8],
+        number: &mut u32,
+    ) -> i16
+        requires there { (1 ≤ free) × (free ≤ most_files) }
+        requires closed { IsFalse (is_open free self.old.files) }
+        ensures { GivesFork free session.old self.old fork.now result number.old number.new session.new self.new }
+    {
         let Ok(copy) = Vec::from_slice(alloc, fork) else {
             return OsErr::MemFullErr.code();
         };

@@ -9,6 +9,7 @@ use crate::input::{NotRead, read_all};
 use crate::message::{DONE, Problem};
 use crate::work::{Failed, copy_rows, file_at_fault, of_file};
 use crate::{TableUse, read, read_other, read_whole, unread, use_table};
+use fork_bytes::layout::MAX_BYTES;
 use fork_bytes::table::{Row, Table};
 use fork_change::{Choice, Collision, Refusal};
 use fork_edit::file::{NotWritten, with_table};
@@ -30,7 +31,7 @@ use std::io::{Error, ErrorKind, Read, Write};
 const MANIFEST: &str = "resources.json";
 
 /// The most bytes that the resources of a fork have together.
-const MOST_BYTES: usize = 16_777_216;
+const MOST_BYTES: usize = MAX_BYTES as usize;
 
 /// The bytes of files, by their paths.
 type Files = BTreeMap<String, Vec<u8>>;
