@@ -83,6 +83,7 @@ pub fn report_on(alloc: Global, report: &Report, name: &str, bytes: &[u8]) -> Re
 }
 
 /// The list of a file's resources as JSON.
+#[tactic(auto, using(crate::proofs::Refusing::fork_cause))]
 fn list_json(
     alloc: Global,
     name: &str,
@@ -103,6 +104,7 @@ fn list_json(
 }
 
 /// The list of a file's resources, with the digest of each.
+#[tactic(auto, using(crate::proofs::Refusing::fork_cause))]
 fn list_digests(alloc: Global, choice: &Choice, bytes: &[u8]) -> Result<Told, Refusal>
     ensures told { IfOk result (TellsOfFork (Report.DigestList choice.now) bytes.now) }
     ensures archive { IfOk result (λ told. HasArchive bytes.now told.archive) }
@@ -130,6 +132,7 @@ fn digest_text_of(alloc: Global, choice: &Choice, fork: &[u8]) -> Result<String,
 }
 
 /// What a file is.
+#[tactic(auto, using(crate::proofs::Refusing::opened_cause))]
 fn info(
     alloc: Global,
     form: Form,
@@ -189,6 +192,7 @@ fn check(alloc: Global, form: Form, name: &str, bytes: &[u8]) -> Result<Told, Re
 
 /// Refuses a file that isn't known to have a fork, as a list of it is refused, where its bytes aren't those of a fork,
 /// not of a damaged one either.
+#[tactic(auto, using(crate::proofs::Refusing::fork_cause, crate::proofs::Refusing::not_damaged, crate::proofs::Refusing::taken_if))]
 fn check_taken(alloc: Global, found: &OldFile<'_>, bytes: &[u8]) -> Result<(), Refusal>
     requires fork { IsForkIn bytes.now (fork_of found.now) }
     requires kind { kind_by found.now ≡ kind_of bytes.now }
