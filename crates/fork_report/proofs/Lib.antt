@@ -1,3 +1,4 @@
 pub mod Counts
 pub mod Refusing
 pub mod Salvaging
+pub mod Inside

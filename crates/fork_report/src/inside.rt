@@ -66,6 +66,7 @@ impl fmt::Display for InsideNote<'_> {
 
 /// The archive or the image of a disk in a file in whose resource fork nothing is found: what its data fork is known
 /// as.
+#[tactic(auto, using(crate::proofs::Inside::archive_if_none, crate::proofs::Inside::none_if_some))]
 pub(crate) fn archive_in(found: &OldFile<'_>) -> Option<Archive>
     ensures { result ≡ archive_inside (said_by found.now) }
 {
@@ -78,6 +79,7 @@ pub(crate) fn archive_in(found: &OldFile<'_>) -> Option<Archive>
 
 /// The archive or the image of a disk in a file with these bytes, in whose resource fork nothing is found. None, too,
 /// where it isn't opened.
+#[tactic(auto, using(crate::proofs::Refusing::inside_of, crate::proofs::Refusing::not_inside))]
 pub fn archive_inside(alloc: Global, bytes: &[u8]) -> Option<Archive>
     ensures { IsInside bytes.now result }
 {

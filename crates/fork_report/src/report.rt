@@ -79,6 +79,7 @@ pub fn report_on(alloc: Global, report: &Report, name: &str, bytes: &[u8]) -> Re
 }
 
 /// The list of a file's resources as JSON.
+#[tactic(auto, using(crate::proofs::Refusing::fork_cause))]
 fn list_json(
     alloc: Global,
     name: &str,
@@ -99,6 +100,7 @@ fn list_json(
 }
 
 /// The list of a file's resources, with the digest of each.
+#[tactic(auto, using(crate::proofs::Refusing::fork_cause))]
 fn list_digests(alloc: Global, choice: &Choice, bytes: &[u8]) -> Result<Told, Refusal>
     ensures told { IfOk result (TellsOfFork (Report.DigestList choice.now) bytes.now) }
     ensures archive { IfOk result (λ told. HasArchive bytes.now told.archive) }
@@ -126,6 +128,7 @@ fn digest_text_of(alloc: Global, choice: &Choice, fork: &[u8]) -> Result<String,
 }
 
 /// What a file is.
+#[tactic(auto, using(crate::proofs::Refusing::opened_cause))]
 fn info(
     alloc: Global,
     form: Form,

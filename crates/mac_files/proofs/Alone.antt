@@ -49,5 +49,5 @@ no_fork (Some bytes) is = absurd (cc is)
 
 -- a fork of some bytes
 pub some_bytes : (fork : List ℕ) → 1 ≤ length fork → fork_with fork ≡ Some fork
-some_bytes [] some = omega (arith, some)
+some_bytes [] some = absurd (omega (arith, some))
 some_bytes (byte ∷ bytes) some = refl
