@@ -35,12 +35,12 @@ few_places at [] few = tt
 few_places at (row ∷ rows) few = let whole = length-data row rows in (omega arith, few_places (at + (4 + length row.datum)) rows (omega arith))
 
 pub fits_of : (limits : Limits) (table : Table) → FitSizesWithin limits own table.rows → FitsWithin limits table
-fits_of limits table fit = record { few_rows = fit.few_rows; lists = fit.lists; names = fit.names; places = fit.places }
+fits_of limits table fit = record { few_rows = fit.few_rows; lists = fit.lists; names = fit.names }
 
 pub small_of : (limits : Limits) (table : Table) → length table.extra ≡ 240 → AreFour (types_of table.rows) → FitSizesWithin limits own table.rows → IsSmallWithin limits table
 small_of limits table extra four fit =
     let whole = length-written table four in let parts = data_is table.rows in let small = fit.whole in let few = fit.few_bytes in
-    record { fork = omega arith; bytes = omega arith }
+    record { fork = omega arith; bytes = omega arith; places = fit.places }
 
 pub few_of : (limits : Limits) (rows : List Row) → FitSizesWithin limits own rows → length (data_text rows) ≤ limits.bytes
 few_of limits rows fit = let parts = data_is rows in let few = fit.few_bytes in omega arith
@@ -50,7 +50,7 @@ too_big_by limits table extra four none =
     let whole = length-written table four in let parts = data_is table.rows in
     ⊎_elim {C = IsTooBigWithin limits table} (λ large. inl large)
     (λ small. ⊎_elim {C = IsTooBigWithin limits table} (λ many. inr (inl many))
-    (λ few. inr (inr (λ fits. none (record { few_rows = fits.few_rows; lists = fits.lists; names = fits.names; places = fits.places; few_bytes = omega arith; whole = omega arith }))))
+    (λ few. inr (inr (λ fits. let fit = fits.0 in none (record { few_rows = fit.few_rows; lists = fit.lists; names = fit.names; places = fits.1; few_bytes = omega arith; whole = omega arith }))))
     (cases_lt limits.bytes (length (data_text table.rows))))
     (cases_lt limits.fork (length (written table)))
 
@@ -58,4 +58,4 @@ too_big_by limits table extra four none =
 pub not_too_big : (limits : Limits) (table : Table) → IsSmallWithin limits table → FitsWithin limits table → ¬ IsTooBigWithin limits table
 not_too_big limits table small fits =
     let fork = small.fork in let bytes = small.bytes in
-    ⊎_elim (λ large. absurd (omega arith)) (λ other. ⊎_elim (λ many. absurd (omega arith)) (λ no. no fits) other)
+    ⊎_elim (λ large. absurd (omega arith)) (λ other. ⊎_elim (λ many. absurd (omega arith)) (λ no. no (fits, small.places)) other)
