@@ -174,7 +174,7 @@ const COMMANDS: &[CommandText] = &[
         name: "pack",
         about: "Writes a fork of what unpack wrote",
         long_about: Some(
-            "Writes a fork of the files in a folder, of which DIR/resources.json says what they are. unpack writes both",
+            "Writes a fork of the files in a folder, of which DIR/resources.json says what they are. unpack writes both. A file that it doesn't name is refused, unless --add takes it",
         ),
     },
     CommandText {
@@ -261,6 +261,8 @@ const WORDS: &[Word] = &[
         "Gives a resource whose id is taken the lowest id from 128 on that is free"),
     word!("pack", "like", Form::Long("like"), Values::One("FILE");
         "Puts the fork in a file like this one, in its container"),
+    word!("pack", "add", Form::Long("add"), Values::Flag;
+        "Takes files that resources.json doesn't name, too: type, id and name are those of their paths, as unpack writes them"),
     word!("get", "output", Form::Short('o', "output"), Values::One("OUT");
         "The file that the bytes are written to, in place of the standard output"),
     word!("salvage", "output", Form::Short('o', "output"), Values::One("OUT");

@@ -103,6 +103,8 @@ pub struct Packing<'a> {
     pub folder: &'a str,
     /// The file in whose container the fork is.
     pub like: Option<&'a str>,
+    /// Whether files that `resources.json` doesn't name are taken, too.
+    pub adds: bool,
     pub target: Target<'a>,
 }
 
@@ -177,6 +179,7 @@ fn pack<'a>(matches: &ArgMatches<'a>) -> Work<'a>
     Work::Pack(Packing {
         folder,
         like: matches.get_str("like"),
+        adds: matches.get_flag("add"),
         target: target_of(matches, folder),
     })
 }

@@ -7,6 +7,7 @@ use crate::change::{say, write_output, written_file};
 use crate::host::Host;
 use crate::input::{NotRead, read_all};
 use crate::message::{DONE, Problem};
+use crate::unlisted::with_unlisted;
 use crate::{TableUse, read, read_other, read_whole, unread, use_table};
 use fork_bytes::table::{Row, Table};
 use fork_edit::file::{NotWritten, with_table};
@@ -24,7 +25,7 @@ use std::fs;
 use std::io::{Error, ErrorKind, Read, Write};
 
 /// The file that says what isn't in the files of the resources.
-const MANIFEST: &str = "resources.json";
+pub const MANIFEST: &str = "resources.json";
 
 /// The most bytes that the resources of a fork have together.
 const MOST_BYTES: usize = 16_777_216;
@@ -199,16 +200,18 @@ fn packing_of(host: &Host<'_>, folder: &str) -> Result<Packing, Problem> {
     manifest_of(alloc, text).map_err(Problem::Pack)
 }
 
-/// Writes a fork of the files in a folder and what `resources.json` says of them, in a file like this one.
+/// Writes a fork of the files in a folder and what `resources.json` says of them, in a file like this one. Files that it
+/// doesn't name are added, or refused.
 pub fn pack_folder(
     host: &Host<'_>,
     folder: &str,
+    adds: bool,
     like: &[u8],
     target: &Target<'_>,
 ) -> Result<u8, Problem>
     ensures { IfOk result (λ status. status ≡ DONE) }
 {
-    let packing = packing_of(host, folder)?;
+    let packing = with_unlisted(host, folder, packing_of(host, folder)?, adds)?;
     let files = read_files(host, folder, packing.entries.as_slice())?;
     let rows = packed(host.alloc(), packing.entries.as_slice(), &files).map_err(Problem::Pack)?;
     let table = Table {

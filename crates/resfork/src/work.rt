@@ -203,7 +203,7 @@ fn pack<'a>(host: &Host<'_>, asked: Packing<'a>) -> Result<u8, Failed<'a>>
         Some(like) => of_file(like, read(host, like))?,
         None => Vec::new(host.alloc()),
     };
-    match pack_folder(host, asked.folder, &bytes, &asked.target) {
+    match pack_folder(host, asked.folder, asked.adds, &bytes, &asked.target) {
         Ok(status) => Ok(status),
         Err(problem) => Err(Failed {
             file: file_at_fault(&asked, &problem),
