@@ -106,7 +106,7 @@ fn file_shown(alloc: Global, file: &str) -> Result<Option<FileText>, AllocError>
 
 /// Whether a path is that of such a file, in either folder of a type.
 fn is_path_of(alloc: Global, path: &str, kind: ResType, text: &FileText) -> Result<bool, AllocError>
-    ensures { IfOk result (λ is_path. is_path ≡ is_path path.now kind text.now.id text.now.n text.now.name) }
+    ensures { IfOk result (λ holds. holds ≡ is_path path.now kind text.now.id text.now.n text.now.name) }
 {
     let name = match &text.name {
         Some(name) => Some(name.as_slice()),
