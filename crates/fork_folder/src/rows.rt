@@ -57,8 +57,8 @@ pub enum PackFault {
     /// The file of this path isn't named as those that are unpacked.
     #[error("{path} isn't named as unpack names files, TYPE/ID NAME.bin", path = FileName(.0.as_str()))]
     Unnamed(String),
-    /// The type and the id of the file of this path are another's.
-    #[error("the type and the id of {path} are those of another resource; a second one is TYPE/ID.2 NAME.bin", path = FileName(.0.as_str()))]
+    /// The file of this path isn't the next one of its type and id.
+    #[error("{path} isn't named as the next resource of its type and id: unpack counts those, as TYPE/ID.bin and TYPE/ID.2.bin", path = FileName(.0.as_str()))]
     Taken(String),
     /// The host has no memory.
     #[error("the host has no memory")]
