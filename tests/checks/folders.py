@@ -18,6 +18,7 @@ from checks.forks import compare, run
 from checks.shown import fork_of, must, write
 from measured import Measure, slowness
 from model.fork import Row
+from model.shown import folder_name
 
 # a user other than the one who runs the checks, and the seconds and the bytes that a command may take besides three times its file
 OTHER = 12345
@@ -104,7 +105,7 @@ def try_links(program, room, times):
         os.mkdir(folder)
         os.chmod(folder, 0o777)
         write(go, b"")
-        other = swapping(folder, elsewhere, list(folder_names(kinds)), go)
+        other = swapping(folder, elsewhere, [folder_name(kind, kinds) for kind in kinds], go)
         status, _, told = run(program, ["unpack", fork, folder])
         os.remove(go)
         os.waitpid(other, 0)
@@ -114,18 +115,6 @@ def try_links(program, room, times):
         must((status == 0) == os.path.exists(os.path.join(folder, "resources.json")), "resources.json is there, and not all is unpacked")
         subprocess.run(["rm", "-rf", folder], check=True)
     must(times < 100 or 4 in reached, "no link was in the way")
-
-
-def folder_names(kinds):
-    """The folders of types of letters and digits: `~` is before a letter whose case is another than that of the letter before."""
-    for kind in kinds:
-        name, small = "", False
-        for sign in kind.decode():
-            if sign.isalpha():
-                name += "~" if sign.islower() != small else ""
-                small = sign.islower()
-            name += sign
-        yield name
 
 
 def try_limit(program, room):

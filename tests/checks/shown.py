@@ -13,7 +13,7 @@ import tempfile
 from checks.fork_questions import Difference
 from checks.forks import Choices, compare, run
 from model.fork import NoFork, Row, read_fork
-from model.shown import dots, file_name, kind_of, read_png
+from model.shown import dots, file_name, folder_name, read_png
 
 RANDOM = random.Random(7)
 ICON = bytes(RANDOM.randrange(256) for _ in range(128))
@@ -70,6 +70,22 @@ LINES = [
 ]
 
 
+# what comes after `show FILE`, where OUT is a new file: forms that aren't made, with words of what is said
+UNMADE = [
+    (["snd ", "1", "-o", "OUT.png"], "'snd ' is no picture"),
+    (["snd ", "1", "-o", "OUT.PNG"], "--as hex writes hexadecimal digits"),
+    (["STR ", "2", "-o", "OUT.png"], "--as text its bytes as text"),
+    (["ICON", "-o", "OUT.png"], "one picture"),
+    (["-o", "OUT.png"], "one picture"),
+    (["ICON", "1", "-o", "OUT.gif"], "--as hex"),
+    (["ICON", "1", "-o", "OUT.JPEG"], "OUT.png"),
+    (["snd ", "1", "-o", "OUT.wav"], "get writes the bytes"),
+    (["ICON", "1", "--as", "gif", "-o", "OUT.gif"], "--as takes text, hex or png"),
+    (["snd ", "1", "--as", "png", "-o", "OUT"], "no picture"),
+    (["STR ", "2", "--as", "text", "-o", "OUT.txt"], "--as hex"),
+]
+
+
 def fork_of(rows):
     """The fork of rows of which those of a type are together."""
     kinds = {}
@@ -112,6 +128,37 @@ def try_shown(program, path):
     compare("show --as hex", run(program, ["show", path, "TEXT", "1", "--as", "hex"]), 0, ("000000  61 A9" + " " * 44 + "a\u00a9\n").encode(), "")
 
 
+def try_forms(program, path, out):
+    """Compares which forms are refused, so that nothing is written, and what names none."""
+    for words, told in UNMADE:
+        words = [it.replace("OUT", out) for it in words]
+        made = words[-1]
+        compare(f"show {words}", run(program, ["show", path, *words]), 2, b"", told)
+        must(not os.path.exists(made), f"show {words}: it is refused, and a file is written")
+        write(made, b"old")
+        compare(f"show {words}", run(program, ["show", path, *words]), 2, b"", told)
+        with open(made, "rb") as file:
+            must(file.read() == b"old", f"show {words}: it is refused, and the file is another")
+        os.remove(made)
+    for words, begin in ((["ICON", "1", "-o", "OUT.Png"], b"\x89PNG"), (["ICON", "1", "--as", "hex", "-o", "OUT.png"], b"000000  "), (["ICON", "1", "-o", "OUT.d/out"], b"\x89PNG")):
+        words = [it.replace("OUT", out) for it in words]
+        os.makedirs(out + ".d", exist_ok=True)
+        compare(f"show {words}", run(program, ["show", path, *words]), 0, b"", "")
+        with open(words[-1], "rb") as file:
+            must(file.read().startswith(begin), f"show {words} writes something else")
+
+
+def try_short(program, path):
+    """Compares what is shown as text of resources of which some are too short: the others, and which those are."""
+    write(path, fork_of([Row(b"STR ", 1, None, 0, b"\1a"), Row(b"STR ", 2, b"b", 0, b"\2b"), Row(b"STR ", 3, None, 0, b"\1c"), Row(b"STR#", 4, None, 0, b"\0\1"), Row(b"vers", 5, None, 0, b"")]))
+    strings = "STR  1\na\nSTR  3\nc\n"
+    for words, named in ((["STR "], ["STR  2"]), ([], ["STR  2", "STR# 4", "vers 5"])):
+        status, shown, told = run(program, ["show", path, *words, "--as", "text"])
+        lines = [f"{path}: {it}: it ends before its texts do; --as hex shows its bytes" for it in named]
+        must((status, shown.decode(), told.splitlines()) == (2, strings, lines), f"show {words} --as text: status {status}, it wrote {shown!r} and told {told!r}")
+    compare("show without a form", run(program, ["show", path, "STR "]), 0, ("STR  1\na\nSTR  2 \"b\"\n000000  02 62" + " " * 44 + ".b\nSTR  3\nc\n").encode(), "")
+
+
 def write(path, data):
     with open(path, "wb") as file:
         file.write(data)
@@ -121,7 +168,7 @@ def try_unpack(program, path, folder, fork, rows):
     """Compares the folder that a fork is unpacked to."""
     write(path, fork)
     compare("unpack", run(program, ["unpack", path, folder]), 0, b"", "")
-    found, counts = {}, {}
+    found, counts, kinds = {}, {}, {row.kind for row in rows}
     for kind in os.listdir(folder):
         if kind != "resources.json":
             for name in os.listdir(os.path.join(folder, kind)):
@@ -133,7 +180,7 @@ def try_unpack(program, path, folder, fork, rows):
     for row, one in zip(rows, said["resources"]):
         kind, _, name = one["file"].partition("/")
         nth = counts[row.kind, row.ident] = counts.get((row.kind, row.ident), -1) + 1
-        must(kind_of(kind) == row.kind, f"{kind} isn't the folder of {row.kind}")
+        must(kind == folder_name(row.kind, kinds), f"{kind} isn't the folder of {row.kind}")
         must(name == file_name(row.ident, nth, row.name) and len(name) <= 255, f"{name} isn't the file of {row.ident} {row.name}")
         must(found[one["file"]] == row.data, f"{one['file']} has other bytes")
         told = (one["type"].encode("mac_roman"), one["id"], one["name"], one["attributes"])
@@ -150,10 +197,11 @@ def try_folders(program, path, top, count):
     rows = [Row(kind, at, names[at % len(names)], at & 255, bytes([at & 255])) for kind in kinds for at in (0, 1, 1, -1, 2, 3, 1, 7, 4, 5, 6)]
     said = try_unpack(program, path, os.path.join(top, "odd"), fork_of(rows), rows)
     must((said["extra"], said["map_attributes"]) == (bytes(range(240)).hex().upper(), 3), "resources.json says other extra bytes or attributes")
-    some = [row for row in rows if row.kind in (b"text", b"STR ")]
     compare("unpack -t", run(program, ["unpack", "-t", "text", "-t", "STR", path, os.path.join(top, "some")]), 0, b"", "")
-    must(len(os.listdir(os.path.join(top, "some"))) == 3, "unpack -t writes other types")
-    must({kind_of(it) for it in os.listdir(os.path.join(top, "some")) if "." not in it} == {row.kind for row in some}, "unpack -t writes other types")
+    must(set(os.listdir(os.path.join(top, "some"))) == {"~text", "STR_", "resources.json"}, "unpack -t writes other types")
+    write(path, fork_of([Row(kind, 1, None, 0, b"") for kind in (b"icl8", b"snd ", b"TEXT", b"Text", b"~abc")]))
+    compare("unpack", run(program, ["unpack", path, os.path.join(top, "plain")]), 0, b"", "")
+    must(set(os.listdir(os.path.join(top, "plain"))) == {"icl8", "snd_", "TEXT", "T~ext", "%7Eabc", "resources.json"}, "a type that clashes with no other has no plain folder")
     empty = os.path.join(top, "empty")
     os.mkdir(empty)
     compare("an empty folder", run(program, ["unpack", path, empty]), 0, b"", "")
@@ -210,6 +258,8 @@ def main(resfork, number=60):
             for words, status, told in LINES:
                 words = [path if it == "FILE" else it for it in words]
                 compare(" ".join(words), run(resfork, words), status, b"", told)
+            try_forms(resfork, path, os.path.join(top, "form"))
+            try_short(resfork, path)
             tried = try_folders(resfork, path, top, number)
             try_containers(resfork, path, os.path.join(top, "container"), b"abc")
             try_failure(resfork, path, os.path.join(top, "closed"))

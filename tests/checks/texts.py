@@ -123,9 +123,56 @@ def try_texts(program, folder):
     compare("derez -t none", run(program, ["derez", "-t", "none", text]), 0, COMMENT, "")
 
 
+# files that the manifest doesn't name, by their paths, and their rows; and those that --add refuses, with words of what is said
+ADDED = [
+    ("STR_/2.bin", (b"STR ", 2, None, 0)),
+    ("STR_/3 Read me.bin", (b"STR ", 3, b"Read me", 0)),
+    ("STR_/4 .bin", (b"STR ", 4, b"", 0)),
+    ("STR_/-1.2 a%2Fb%80.bin", (b"STR ", -1, b"a/b\x80", 0)),
+    ("%AAabc/129.bin", (b"\xaaabc", 129, None, 0)),
+    ("~%AA~abc/-32768.bin", (b"\xaaabc", -32768, None, 0)),
+    ("icl8/200.bin", (b"icl8", 200, None, 0)),
+    ("~icl8/201.bin", (b"icl8", 201, None, 0)),
+]
+UNNAMED = [
+    *[(path, "isn't named as unpack names files") for path in ("a.bin", "STR_/a.bin", "STR_/2", "STR_/2.1.bin", "STR_/32768.bin", "STR_/+2.bin", "STR_/02.bin", "STR_/2.bin~")],
+    *[(path, "isn't named as unpack names files") for path in ("STR/2.bin", "STRxx/2.bin", "~STR_/2.bin", "STR_/2 %.bin", "STR_/2 %ff.bin", "STR_/2 %61.bin", "STR_/2 \u00e4.bin")],
+    *[("STR_/" + name, "unpack counts those") for name in ("-1 New.bin", "-1.3.bin", "2.2.bin")],
+]
+
+
+def try_unlisted(program, folder, out, packed):
+    """Compares what becomes of files that the manifest doesn't name."""
+    words = ["pack", "-q", "--add", folder, out]
+    for path, told in [(path, "") for path, _ in ADDED] + UNNAMED:
+        whole = os.path.join(folder, path)
+        os.makedirs(os.path.dirname(whole), exist_ok=True)
+        write(whole, path.encode())
+        compare(f"pack with {path}", packed(), 3, b"", "resources.json doesn't name")
+        must(not os.path.exists(out), f"pack with {path}: it is refused, and a file is written")
+        if told:
+            compare(f"pack --add of {path}", run(program, words), 3, b"", told)
+            must(not os.path.exists(out), f"pack --add of {path}: it is refused, and a file is written")
+        os.remove(whole)
+    for path, _ in ADDED:
+        write(os.path.join(folder, path), path.encode())
+    write(os.path.join(folder, "STR_", ".hidden"), b"")
+    compare("pack --add", run(program, words), 0, b"", "")
+    rows = ROWS + [(*row, path.encode()) for path, row in sorted(ADDED)]
+    kinds = [b"STR ", b"\xaaabc", b"icl8"]
+    must(table_of(read(out))[0] == sorted(rows, key=lambda row: kinds.index(row[0])), "pack --add: other resources are read")
+    os.remove(out)
+    for path, _ in ADDED:
+        os.remove(os.path.join(folder, path))
+    compare("pack without them", packed(), 0, b"", "")
+    os.remove(out)
+
+
 def try_folders(program, folder):
     """Compares what is packed of folders."""
-    out = os.path.join(folder, "out")
+    folder = os.path.join(folder, "unpacked")
+    os.mkdir(folder)
+    out = folder + ".out"
     for path, data in FILES.items():
         os.makedirs(os.path.dirname(os.path.join(folder, path)))
         write(os.path.join(folder, path), data)
@@ -143,6 +190,7 @@ def try_folders(program, folder):
         compare(f"pack {fields}", packed({**MANIFEST, **fields}), 3, b"", words)
     apart = packed({**MANIFEST, "resources": [first, second, first]})
     compare("pack of resources that stand apart", apart, 3, b"", f"{folder}: 'STR ' -1 is apart from the other resources of its type")
+    try_unlisted(program, folder, out, lambda: packed(MANIFEST))
     os.remove(os.path.join(folder, first["file"]))
     compare("pack without a file", packed(MANIFEST), 4, b"", f"{first['file']} can't be read")
     must(not os.path.exists(out), "pack: it is refused, and a file is written")

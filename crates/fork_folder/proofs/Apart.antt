@@ -41,9 +41,10 @@ one_type_more kind types (row ∷ rows) all =
 -- rows have types of their own
 pub all_known : (rows : List Row) → AllByRecursion IsNamed rows → AllByRecursion (IsOf (types_of rows)) rows
 all_known [] all = tt
-all_known (row ∷ rows) all =
-    (record { named = all.0; known = λ f none. (neither (f row.kind) (list_any f (types_of rows)) none).0 },
-      one_type_more row.kind (types_of rows) rows (all_known rows all.1))
+all_known (row ∷ rows) all = (
+  record { named = all.0; known = λ f none. (neither (f row.kind) (list_any f (types_of rows)) none).0 },
+  one_type_more row.kind (types_of rows) rows (all_known rows all.1),
+)
 
 -- a type that doesn't clash with another, and is the same without regard to case, is the same
 unclashed : (kind other : List ℕ) → clash kind other ≡ false → folded other ≡ folded kind → other ≡ kind

@@ -16,12 +16,12 @@ Apart false a b = a ≡ b
 -- the counts with one more, which the first counts only if the second does
 step : (one other any : Bool) (a b : ℕ) → (one ≡ true → other ≡ true) → Apart any a b → Apart ((not one && other) || any) (cond one 1 0 + a) (cond other 1 0 + b)
 step true true true a b both apart = omega (arith, apart)
-step true true false a b both apart = ap (λ (n : ℕ). 1 + n) apart
+step true true false a b both apart = omega (arith, apart)
 step true false any a b both apart = absurd (let h = both refl in cc)
 step false true true a b both apart = omega (arith, apart)
 step false true false a b both apart = omega (arith, apart)
-step false false true a b both apart = apart
-step false false false a b both apart = apart
+step false false true a b both apart = omega (arith, apart)
+step false false false a b both apart = omega (arith, apart)
 
 same_folded : (kind other : List ℕ) → bytes_eq other kind ≡ true → bytes_eq (folded other) (folded kind) ≡ true
 same_folded kind other same = (bytes_eq-Decides (folded other) (folded kind)).1 (ap folded ((bytes_eq-Decides other kind).0 same))

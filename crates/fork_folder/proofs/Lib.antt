@@ -8,3 +8,4 @@ pub mod Safe
 pub mod Found
 pub mod Front
 pub mod Again
+pub mod Texts

@@ -6,3 +6,4 @@ pub mod Packed
 pub mod PackedAgain
 pub mod Paths
 pub mod Manifest
+pub mod Added

@@ -1,9 +1,9 @@
 -- What is made of the texts and numbers of a manifest.
-use Rattle.std.specs.Prelude.{◌≡◌, ℕ, ◌+◌, ◌*◌, ◌<◌, List, length, slice_index, string_bytes, option_map}
+use Rattle.std.specs.Prelude.{◌≡◌, ℕ, ◌+◌, ◌*◌, ◌<◌, List, length, slice_index, string_bytes, option_map, IfSome}
 use Rattle.std.specs.Char.{digit_value}
-use Rattle.fork_list.specs.Roman.{roman_text}
+use Rattle.fork_list.specs.Roman.{AreBytes, roman_text}
 use Rattle.fork_folder.specs.declared.manifest.Resource.{Resource}
-use Rattle.fork_folder.specs.declared.rows.Entry.{Entry}
+use Rattle.fork_folder.specs.Packed.{Listed}
 
 -- the two hexadecimal digits at a place of a text are this byte
 pub record IsPair (text : List ℕ) (at byte : ℕ) : Type 0 where
@@ -15,10 +15,27 @@ pub record IsPair (text : List ℕ) (at byte : ℕ) : Type 0 where
 abbrev pub IsHexOf : List ℕ → List ℕ → Type 0
 IsHexOf text bytes = (length text ≡ 2 * length bytes) × ((i : ℕ) → i < length bytes → IsPair text (2 * i) (slice_index bytes i))
 
--- an entry says of a resource what the manifest does: its type and its name are those that the texts show in MacRoman
-pub record IsEntryOf (resource : Resource) (entry : Entry) : Type 0 where
-  pub kind : roman_text entry.kind ≡ string_bytes resource.kind
-  pub id : entry.id ≡ resource.id
-  pub name : option_map roman_text entry.name ≡ option_map string_bytes resource.name
-  pub attributes : entry.attributes.0 ≡ resource.attributes
-  pub file : string_bytes entry.file ≡ string_bytes resource.file
+-- the manifest says of a resource what is listed of it: its type and its name are those that the texts show in MacRoman
+pub record Says (resource : Resource) (one : Listed) : Type 0 where
+  pub kind : roman_text one.kind ≡ string_bytes resource.kind
+  pub id : one.id ≡ resource.id
+  pub name : option_map roman_text one.name ≡ option_map string_bytes resource.name
+  pub attributes : one.attributes.0 ≡ resource.attributes
+  pub file : one.file ≡ string_bytes resource.file
+
+-- a type and a name of bytes
+pub record IsOfBytes (one : Listed) : Type 0 where
+  pub kind : AreBytes one.kind
+  pub name : IfSome one.name AreBytes
+
+-- two resources of which the same is listed
+pub record IsSame (one other : Listed) : Type 0 where
+  pub kind : one.kind ≡ other.kind
+  pub id : one.id ≡ other.id
+  pub name : one.name ≡ other.name
+  pub attributes : one.attributes.0 ≡ other.attributes.0
+  pub file : one.file ≡ other.file
+
+-- the manifest says of a resource what it says of no other
+abbrev pub IsReadAgain : Type 0
+IsReadAgain = (resource : Resource) (one other : Listed) → IsOfBytes one → IsOfBytes other → Says resource one → Says resource other → IsSame one other

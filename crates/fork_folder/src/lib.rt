@@ -3,6 +3,7 @@
 //! bytes of its file.
 #![tactic(auto)]
 
+mod added;
 mod counts;
 mod file_name;
 pub mod files;
@@ -12,6 +13,7 @@ pub mod manifest;
 pub mod rows;
 mod types;
 
+pub use added::with_added;
 pub use files::unpacked;
 pub use laws::{folder_laws, pack_laws};
 pub use manifest::manifest_of;

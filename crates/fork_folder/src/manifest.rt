@@ -1,37 +1,53 @@
 //! What `resources.json` says.
 
-ghost use Rattle.std.specs.Prelude.{◌≡◌, IfErr, IfOk, IfSome};
+ghost use Rattle.std.specs.Prelude.{◌≡◌, IfErr, IfOk, IfSome, option_map, string_bytes};
 ghost use Rattle.std.specs.List.{AllByRecursion, list_any};
 ghost use Rattle.fork_list.specs.Roman.{roman_text};
-ghost use Rattle.fork_folder.specs.Manifest.{IsEntryOf, IsHexOf};
+ghost use Rattle.fork_folder.specs.Manifest.{IsHexOf, Says};
+ghost use Rattle.fork_folder.specs.Packed.{listed};
+ghost use Rattle.fork_folder.specs.PackedAgain.{entry_of};
+ghost use Rattle.fork_folder.specs.Unpacked.{file_row, unpacked_file};
 ghost use Rattle.fork_folder.specs.declared.rows.PackFault.TheVariants.{BadEntry};
 ghost use Rattle.fork_folder.specs.Paths.{IsInFolder, IsRefusedPath, is_dots, is_end, is_inside, is_plain};
 
+use crate::files::File;
 use crate::rows::{Entry, Flaw, PackFault};
 use bitflags::Flags;
-use fork_list::bytes_of;
+use fork_bytes::table::Row;
+use fork_list::{bytes_of, text_of};
 use mac_base::name::Name;
 use mac_base::resource::{ResAttrs, ResType};
-use serde::Deserialize;
+use serde::{Deserialize, Serialize};
 use std::alloc::{AllocError, Global};
 
-/// A resource as the manifest has it. Type and name are MacRoman, as UTF-8.
-#[derive(Debug, Drop, Deserialize)]
-struct Resource {
+/// What the manifest says of a resource, whose bytes are those of the file of this path in the folder. Type and name are
+/// MacRoman, as UTF-8.
+#[derive(Debug, Drop, Serialize, Deserialize)]
+pub struct Resource {
     #[serde(rename = "type")]
-    kind: String,
-    id: i16,
-    name: Option<String>,
-    attributes: u8,
-    file: String,
+    pub kind: String,
+    pub id: i16,
+    pub name: Option<String>,
+    pub attributes: u8,
+    pub file: String,
 }
 
-/// What is packed of a manifest. What else it says, of the container that the fork came from, is passed over.
-#[derive(Debug, Drop, Deserialize)]
-struct Manifest {
-    extra: String,
-    map_attributes: u16,
-    resources: Vec<Resource>,
+/// What `resources.json` says, as it is written and read: a container with what it says of the file, and all of the
+/// fork but its resources' bytes. The dates count seconds as the container does. What packs a folder passes over the
+/// container.
+#[derive(Debug, Drop, Serialize, Deserialize)]
+pub struct Manifest {
+    pub container: Option<String>,
+    #[serde(rename = "type")]
+    pub kind: Option<String>,
+    pub creator: Option<String>,
+    pub flags: Option<u16>,
+    pub created: Option<u32>,
+    pub modified: Option<u32>,
+    /// The 240 bytes for the system and the application, in hexadecimal digits.
+    pub extra: String,
+    pub map_attributes: u16,
+    pub resources: Vec<Resource>,
 }
 
 /// What is packed: the resources with the paths of their files, and all else of the fork.
@@ -113,7 +129,7 @@ fn bad(file: String, what: Flaw) -> PackFault
 
 /// What the manifest says of a resource.
 fn entry_of(alloc: Global, resource: Resource) -> Result<Entry, PackFault>
-    ensures entry { IfOk result (IsEntryOf resource) }
+    ensures entry { IfOk result (λ entry. Says resource (listed entry)) }
     ensures inside { IfOk result IsInFolder }
     ensures outside { IfErr result IsRefusedPath }
 {
@@ -146,6 +162,32 @@ fn entry_of(alloc: Global, resource: Resource) -> Result<Entry, PackFault>
     })
 }
 
+/// The text of a resource's name, if it has one.
+fn text_of_name(alloc: Global, row: &Row<'_>) -> Result<Option<String>, AllocError>
+    ensures { IfOk result (λ found. option_map string_bytes found ≡ option_map roman_text row.now.name) }
+{
+    match &row.name {
+        Some(name) => Ok(Some(text_of(alloc, name.as_slice())?)),
+        None => Ok(None),
+    }
+}
+
+/// What the manifest says of the resource in a file.
+pub fn resource_of(alloc: Global, file: &File<'_>) -> Result<Resource, AllocError>
+    ensures { IfOk result (λ resource. Says resource (entry_of (file_row file.now) (unpacked_file file.now))) }
+{
+    let row = file.row;
+    let folder = file.folder.as_str();
+    let name = file.name.as_str();
+    Ok(Resource {
+        kind: text_of(alloc, &row.kind.bytes())?,
+        id: row.id,
+        name: text_of_name(alloc, row)?,
+        attributes: row.attributes.bits(),
+        file: format!(in alloc; "{folder}/{name}")?,
+    })
+}
+
 /// The 240 bytes that as many pairs of hexadecimal digits are.
 fn extra_of(text: &str) -> Option<[u8; 240]>
     ensures { IfSome result (IsHexOf text.now) }
@@ -163,16 +205,25 @@ fn extra_of(text: &str) -> Option<[u8; 240]>
     Some(extra)
 }
 
-/// What a manifest says that `unpack` wrote. An error says what isn't so, and in which file's entry. Each file is in a
+/// What a text says that `unpack` wrote. An error says what isn't so, and in which file's entry. Each file is in a
 /// folder of the folder, and a path is refused only where it leads elsewhere.
 pub fn manifest_of(alloc: Global, text: &str) -> Result<Packing, PackFault>
     ensures inside { IfOk result (λ packing. AllByRecursion IsInFolder packing.entries.items) }
     ensures outside { IfErr result IsRefusedPath }
 {
-    let manifest: Manifest = match serde_json::from_str(alloc, text) {
-        Ok(manifest) => manifest,
-        Err(error) => return Err(PackFault::BadManifest(error.to_string(alloc)?)),
-    };
+    match serde_json::from_str::<Manifest>(alloc, text) {
+        Ok(manifest) => packing_of(alloc, manifest),
+        Err(error) => Err(PackFault::BadManifest(error.to_string(alloc)?)),
+    }
+}
+
+/// What is packed by a manifest.
+fn packing_of(alloc: Global, manifest: Manifest) -> Result<Packing, PackFault>
+    ensures inside { IfOk result (λ packing. AllByRecursion IsInFolder packing.entries.items) }
+    ensures outside { IfErr result IsRefusedPath }
+    ensures extra { IfOk result (λ packing. IsHexOf (string_bytes manifest.extra) packing.extra) }
+    ensures map { IfOk result (λ packing. packing.map_attributes ≡ manifest.map_attributes) }
+{
     let Some(extra) = extra_of(manifest.extra.as_str()) else {
         return Err(PackFault::BadExtra);
     };

@@ -51,6 +51,15 @@ pub enum PackFault {
     /// The file of this path, which the manifest names, isn't there.
     #[error("the manifest names {path}, which isn't there", path = FileName(.0.as_str()))]
     NoFile(String),
+    /// The file of this path is there, and the manifest doesn't name it.
+    #[error("resources.json doesn't name {path}, which is there; --add takes such files, with types, ids and names by their paths", path = FileName(.0.as_str()))]
+    Unlisted(String),
+    /// The file of this path isn't named as those that are unpacked.
+    #[error("{path} isn't named as unpack names files, TYPE/ID NAME.bin", path = FileName(.0.as_str()))]
+    Unnamed(String),
+    /// The file of this path isn't the next one of its type and id.
+    #[error("{path} isn't named as the next resource of its type and id: unpack counts those, as TYPE/ID.bin and TYPE/ID.2.bin", path = FileName(.0.as_str()))]
+    Taken(String),
     /// The host has no memory.
     #[error("the host has no memory")]
     HostFull,

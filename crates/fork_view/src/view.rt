@@ -86,7 +86,11 @@ pub struct Sight {
 }
 
 /// Why a resource can't be shown in a form, where it is no picture.
-fn why_untold(alloc: Global, row: &Row, form: Option<ShowAs>) -> Result<Option<NotShown>, AllocError>
+fn why_untold(
+    alloc: Global,
+    row: &Row,
+    form: Option<ShowAs>,
+) -> Result<Option<NotShown>, AllocError>
     ensures { IfOk result (λ why. why ≡ why_untold form row.now) }
 {
     if form == Some(ShowAs::Text) && ends_early(alloc, row)? {

@@ -178,7 +178,7 @@ const COMMANDS: &[CommandText] = &[
         name: "pack",
         about: "Writes a fork of what unpack wrote",
         long_about: Some(
-            "Writes a fork of the files in a folder, of which DIR/resources.json says what they are. unpack writes both. --into FILE puts their resources into a file that is there. Where a type and an id are there already, nothing is written, unless --replace or --skip is given",
+            "Writes a fork of the files in a folder, of which DIR/resources.json says what they are. unpack writes both. A file that it doesn't name is refused, unless --add takes it. --into FILE puts their resources into a file that is there. Where a type and an id are there already, nothing is written, unless --replace or --skip is given",
         ),
     },
     CommandText {
@@ -281,6 +281,8 @@ const WORDS: &[Word] = &[
         "Replaces an OUT that is there, though resources or other parts of it are lost"),
     word!("pack", "like", Form::Long("like"), Values::One("FILE"), rival: Some("into");
         "Puts the fork in a file like this one, in its container"),
+    word!("pack", "add", Form::Long("add"), Values::Flag;
+        "Takes files that resources.json doesn't name, too: type, id and name are those of their paths, as unpack writes them"),
     word!("get", "output", Form::Short('o', "output"), Values::One("OUT");
         "The file that the bytes are written to, in place of the standard output"),
     word!("salvage", "output", Form::Short('o', "output"), Values::One("OUT"), rival: Some("data");

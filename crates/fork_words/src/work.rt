@@ -129,6 +129,8 @@ pub struct Packing<'a> {
     pub folder: &'a str,
     /// The file in whose container the fork is.
     pub like: Option<&'a str>,
+    /// Whether files that `resources.json` doesn't name are taken, too.
+    pub adds: bool,
     pub place: Place<'a>,
 }
 
@@ -206,6 +208,7 @@ fn pack<'a>(matches: &ArgMatches<'a>) -> Result<Work<'a>, Fault>
     Ok(Work::Pack(Packing {
         folder,
         like: matches.get_str("like"),
+        adds: matches.get_flag("add"),
         place,
     }))
 }

@@ -15,6 +15,7 @@ mod output;
 mod parts;
 mod rez;
 mod save;
+mod unlisted;
 mod work;
 
 use fork_answer::answer::answer;

@@ -7,6 +7,7 @@ use crate::change::{say, write_output, written_file};
 use crate::host::Host;
 use crate::input::{NotRead, read_all};
 use crate::message::{DONE, Problem};
+use crate::unlisted::with_unlisted;
 use crate::work::{Failed, copy_rows, file_at_fault, of_file};
 use crate::{TableUse, read, read_other, read_whole, unread, use_table};
 use fork_bytes::layout::MAX_BYTES;
@@ -28,7 +29,7 @@ use std::fs;
 use std::io::{Error, ErrorKind, Read, Write};
 
 /// The file that says what isn't in the files of the resources.
-const MANIFEST: &str = "resources.json";
+pub const MANIFEST: &str = "resources.json";
 
 /// The most bytes that the resources of a fork have together.
 const MOST_BYTES: usize = MAX_BYTES as usize;
@@ -291,7 +292,7 @@ fn packing_of(host: &Host<'_>, folder: &str) -> Result<Manifest, Problem> {
 }
 
 /// Writes a fork of the files in a folder and what `resources.json` says of them, in a file like this one; or puts its
-/// resources into a file.
+/// resources into a file. Files that it doesn't name are added, or refused.
 pub fn pack_folder<'a>(
     host: &Host<'_>,
     asked: Packing<'a>,
@@ -301,6 +302,7 @@ pub fn pack_folder<'a>(
 {
     let folder = asked.folder;
     let packing = of_file(folder, packing_of(host, folder))?;
+    let packing = of_file(folder, with_unlisted(host, folder, packing, asked.adds))?;
     let files = of_file(folder, read_files(host, folder, packing.entries.as_slice()))?;
     let rows = packed(host.alloc(), packing.entries.as_slice(), &files);
     let table = Table {

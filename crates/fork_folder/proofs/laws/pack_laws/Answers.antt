@@ -1,5 +1,9 @@
 use Rattle.fork_folder.proofs.Again.{packed_again}
+use Rattle.fork_folder.proofs.Texts.{read_again}
 use Rattle.fork_folder.proofs.laws.pack_laws.Goals as goal
 
 pub returns : goal.returns
-returns c = record { again = λ kinds rows named few. packed_again kinds rows named few }
+returns c = record {
+  again = λ kinds rows named few. packed_again kinds rows named few;
+  same = λ resource one other of of' says says'. read_again resource one other of of' says says';
+}

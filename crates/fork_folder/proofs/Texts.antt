@@ -1,0 +1,51 @@
+-- A text in MacRoman is that of no other bytes.
+use Rattle.std.proofs.Common.{◌≡◌, ℕ, suc, ◌+◌, ◌-◌, ◌<◌, ◌==◌, eqb, if◌then◌else◌, true, List, [], ◌∷◌, ◌++◌, length, Option, None, Some, refl, sym, ap, ◌∙◌, length-append, arith}
+use Rattle.std.specs.Prelude.{nat_lt, encode_utf8, option_map, string_bytes, IfSome}
+use Rattle.std.specs.List.{position_or_len}
+use Rattle.std.proofs.lemmas.Bool.{agree_below_at, eqb-true}
+use Rattle.std.proofs.lemmas.Str.{encode_same, length-encode, len_utf8_bounds}
+use Rattle.fork_list.specs.declared.roman.TheConstants.{UPPER}
+use Rattle.fork_list.specs.Roman.{AreBytes, roman_char, roman_text}
+use Rattle.fork_folder.specs.Manifest.{IsOfBytes, IsSame, Says}
+use Rattle.fork_folder.specs.Packed.{Listed}
+use Rattle.fork_folder.specs.declared.manifest.Resource.{Resource}
+
+-- the byte of a character
+abbrev byte_for : ℕ → ℕ
+byte_for character = if nat_lt character 128 then character else 128 + position_or_len (λ other. other == character) UPPER
+
+own : (byte : ℕ) → byte < 256 → byte_for (roman_char byte) ≡ byte
+own byte h = eqb-true _ _ (agree_below_at (λ b. eqb (byte_for (roman_char b)) b) (λ _. true) 256 byte refl h)
+
+-- a text of at least one byte isn't empty
+some : (byte : ℕ) (bytes : List ℕ) → ¬ (roman_text (byte ∷ bytes) ≡ [])
+some byte bytes is =
+    let long = len_utf8_bounds (roman_char byte) in
+    let count : length (encode_utf8 (roman_char byte) ++ roman_text bytes) ≡ 0 = ap (λ (t : List ℕ). length t) is in
+    absurd (omega (arith, length-append (encode_utf8 (roman_char byte)) (roman_text bytes), length-encode (roman_char byte)))
+
+pub same_bytes : (xs ys : List ℕ) → AreBytes xs → AreBytes ys → roman_text xs ≡ roman_text ys → xs ≡ ys
+same_bytes [] [] hx hy e = refl
+same_bytes [] (y ∷ ys) hx hy e = absurd (some y ys (sym e))
+same_bytes (x ∷ xs) [] hx hy e = absurd (some x xs e)
+same_bytes (x ∷ xs) (y ∷ ys) hx hy e =
+    let both = encode_same (roman_char x) (roman_char y) (roman_text xs) (roman_text ys) e in
+    let first : x ≡ y = sym (own x (hx 0 0 (omega arith))) ∙ ap byte_for both.0 ∙ own y (hy 0 0 (omega arith)) in
+    let rest : xs ≡ ys = same_bytes xs ys (λ k d within. hx (suc k) d (omega arith)) (λ k d within. hy (suc k) d (omega arith)) both.1 in
+    cc
+
+same_names : (a b : Option (List ℕ)) → IfSome a AreBytes → IfSome b AreBytes → option_map roman_text a ≡ option_map roman_text b → a ≡ b
+same_names None None ha hb e = refl
+same_names None (Some b) ha hb e = absurd cc
+same_names (Some a) None ha hb e = absurd cc
+same_names (Some a) (Some b) ha hb e = let texts : roman_text a ≡ roman_text b = cc in let same = same_bytes a b ha hb texts in cc
+
+-- so the manifest says of a resource what it says of no other
+pub read_again : (resource : Resource) (one other : Listed) → IsOfBytes one → IsOfBytes other → Says resource one → Says resource other → IsSame one other
+read_again resource one other of of' says says' = record {
+  kind = same_bytes one.kind other.kind of.kind of'.kind (says.kind ∙ sym says'.kind);
+  id = says.id ∙ sym says'.id;
+  name = same_names one.name other.name of.name of'.name (says.name ∙ sym says'.name);
+  attributes = says.attributes ∙ sym says'.attributes;
+  file = says.file ∙ sym says'.file;
+}
