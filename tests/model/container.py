@@ -144,7 +144,7 @@ def resource_fork(file):
     elif version := mac_binary_version(file):
         fork = in_mac_binary(version, file)
     elif (comment := COMMENT.search(file)) and not has_fork_parts(file):
-        return in_bin_hex(file, comment.end())
+        fork = in_bin_hex(file, comment.end())
     else:
         return file
     must(fork, "absent")

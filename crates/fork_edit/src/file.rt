@@ -191,8 +191,10 @@ fn kept_in(
     Ok(new)
 }
 
-/// The file of a BinHex text with these bytes as its resource fork. What comes before the text and after it isn't kept.
+/// The file of a BinHex text with these bytes as its resource fork, which aren't none. What comes before the text and
+/// after it isn't kept.
 fn kept_in_text(alloc: Global, file: &[u8], fork: &[u8]) -> Result<Vec<u8>, NotWritten>
+    requires { 1 ≤ length fork.now }
     ensures refused { RefusesFork (text_why (bin_hex_of file.now) fork.now) (result_err result) }
     ensures found { IfOk result (λ new. IsForkIn new.items fork.now) }
     ensures kept { IfOk result (λ new. IsKeptAs FileKind.BinHex file.now fork.now new.items) }

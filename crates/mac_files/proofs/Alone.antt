@@ -1,6 +1,6 @@
 -- Files that are nothing but a resource fork, or are taken for one.
 use Rattle.std.proofs.Common.{◌≡◌, ◌≢◌, ◌≤◌, ℕ, Bool, true, false, List, Option, None, Some, Result, Ok, Err, refl, ap, arith, ◌∙◌}
-use Rattle.std.specs.Prelude.{is_some, length, option_map, unwrap_or, []}
+use Rattle.std.specs.Prelude.{is_some, length, option_map, unwrap_or, [], ◌∷◌}
 use Rattle.std.proofs.lemmas.Bool.{cond-false, ne_eqb}
 use Rattle.std.proofs.lemmas.List.{take_all}
 use Rattle.mac_files.specs.declared.archive.Archive.{Archive}
@@ -10,7 +10,7 @@ use Rattle.mac_files.specs.declared.kind.FileKind.{FileKind}
 use Rattle.mac_files.specs.declared.kind.FileKind.TheVariants.{Archive as Holds, BinHex, Container as In, Unknown}
 use Rattle.mac_files.specs.declared.old_file.FileFault.{FileFault}
 use Rattle.mac_files.specs.Kinds.{first_kind, is_alone}
-use Rattle.mac_files.specs.OldFiles.{Said, fork_said, read_as}
+use Rattle.mac_files.specs.OldFiles.{Said, fork_said, fork_with, read_as}
 use Rattle.mac_files.specs.Parts.{bytes_of, has_bytes}
 
 abbrev pub read : Option (List ℕ) → Result (Option (List ℕ)) FileFault
@@ -46,3 +46,8 @@ some_fork (Some bytes) is = refl
 pub no_fork : (fork : Option (List ℕ)) → is_some fork ≡ false → fork ≡ None
 no_fork None is = refl
 no_fork (Some bytes) is = absurd (cc is)
+
+-- a fork of some bytes
+pub some_bytes : (fork : List ℕ) → 1 ≤ length fork → fork_with fork ≡ Some fork
+some_bytes [] some = absurd (omega (arith, some))
+some_bytes (byte ∷ bytes) some = refl

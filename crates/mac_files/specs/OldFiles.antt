@@ -1,5 +1,5 @@
 -- What a file is, out of any container, or the first fault of its bytes.
-use Rattle.std.specs.Prelude.{◌≡◌, ℕ, List, [], Option, None, Some, option_map, unwrap_or, Result, Ok, Err}
+use Rattle.std.specs.Prelude.{◌≡◌, ℕ, List, [], ◌∷◌, Option, None, Some, option_map, unwrap_or, Result, Ok, Err}
 use Rattle.std.specs.Option.{option_copied}
 use Rattle.mac_files.specs.declared.bin_hex.fault.BinHexFault.{BinHexFault}
 use Rattle.mac_files.specs.declared.contents.Contents.{Contents}
@@ -14,6 +14,8 @@ use Rattle.mac_files.specs.declared.old_file.FileView.{FileView}
 use Rattle.mac_files.specs.declared.old_file.OldFile.{OldFile}
 use Rattle.mac_files.specs.declared.old_file.OldFile.TheVariants.{Own, Text}
 use Rattle.mac_files.specs.declared.part.Part.{Part}
+use Rattle.mac_files.specs.declared.archive.Archive.{Archive}
+use Rattle.mac_files.specs.Archives.{archive_of}
 use Rattle.mac_files.specs.BinHex.{File, bin_hex_of}
 use Rattle.mac_files.specs.BinHexFiles.{view as bin_hex_view}
 use Rattle.mac_files.specs.Containers.{contents_of, fault_of}
@@ -45,7 +47,12 @@ said_in bytes contents = record {
   resource_fork = option_map (λ part. bytes_of part bytes) contents.resource_fork;
 }
 
--- what a BinHex text says: neither a comment nor dates, and always both forks
+-- a fork of these bytes; one of no bytes is none
+abbrev pub fork_with : List ℕ → Option (List ℕ)
+fork_with [] = None
+fork_with (byte ∷ bytes) = Some (byte ∷ bytes)
+
+-- what a BinHex text says: neither a comment nor dates
 abbrev pub said_of_text : File → Said
 said_of_text file = record {
   name = file.name;
@@ -53,7 +60,7 @@ said_of_text file = record {
   finder = Some (record { kind = file.kind; creator = file.creator; flags = file.flags });
   dates = None;
   data_fork = file.data_fork;
-  resource_fork = Some file.resource_fork;
+  resource_fork = fork_with file.resource_fork;
 }
 
 -- a file that is nothing but a resource fork
@@ -107,6 +114,10 @@ kind_by (Text file) = kind.BinHex
 -- its resource fork; no bytes where there is none
 abbrev pub fork_of : OldFile → List ℕ
 fork_of file = unwrap_or (said_by file).resource_fork []
+
+-- the archive or image that its data fork is known as
+abbrev pub data_archive : Said → Option Archive
+data_archive it = archive_of it.data_fork
 
 -- why bytes of this kind aren't opened: their first fault, or for a text that the host has no memory
 abbrev pub IsUnopened : FileKind → List ℕ → FileFault → Type 0

@@ -1,11 +1,13 @@
 //! A file of an old Macintosh: what its bytes are known as, and what it is out of any container.
 
 ghost use Rattle.std.specs.Prelude.{◌≡◌, length, is_some, true, IfSome};
+ghost use Rattle.std.specs.Option.{option_copied};
 ghost use Rattle.mac_files.specs.BinHexFiles.{view as bin_hex_view};
 ghost use Rattle.mac_files.specs.Kinds.{kind_of};
-ghost use Rattle.mac_files.specs.OldFiles.{Opens, fork_of, kind_by, said, said_by, said_in, said_of_text, told_bytes, whole};
+ghost use Rattle.mac_files.specs.OldFiles.{Opens, data_archive, fork_of, fork_with, kind_by, said, said_by, said_in, said_of_text, told_bytes, whole};
 ghost use Rattle.mac_files.specs.Parts.{AreWithin, lies_within};
 
+use crate::archive::{Archive, archive_of};
 use crate::bin_hex::fault::BinHexFault;
 use crate::bin_hex::file::BinHexFile;
 use crate::bin_hex::read_bin_hex;
@@ -33,7 +35,7 @@ pub enum FileFault {
 }
 
 /// What a file is, out of any container. A part that there isn't is empty, but of a resource fork it is known whether
-/// there is one.
+/// there is one: in a container, one of no bytes is none.
 #[derive(Clone, Copy, Debug)]
 pub struct FileView<'a> {
     /// The name, in the characters of a Macintosh.
@@ -86,6 +88,13 @@ fn view_of_whole(bytes: &[u8]) -> FileView<'_>
     }
 }
 
+/// A fork of these bytes. One of no bytes is none.
+fn fork_with(bytes: &[u8]) -> Option<&[u8]>
+    ensures { option_copied result ≡ fork_with bytes.now }
+{
+    if bytes.is_empty() { None } else { Some(bytes) }
+}
+
 /// The file that a BinHex text stands for.
 fn view_of_text(file: &BinHexFile) -> FileView<'_>
     ensures { said result ≡ said_of_text (bin_hex_view file.now) }
@@ -100,7 +109,7 @@ fn view_of_text(file: &BinHexFile) -> FileView<'_>
         }),
         dates: None,
         data_fork: file.data_fork(),
-        resource_fork: Some(file.resource_fork()),
+        resource_fork: fork_with(file.resource_fork()),
     }
 }
 
@@ -165,6 +174,13 @@ impl<'a> OldFile<'a> {
             Some(fork) => fork,
             None => &[],
         }
+    }
+
+    /// The archive or the image of a disk that its data fork is known as, or None.
+    pub fn data_archive(&self) -> Option<Archive>
+        ensures { result ≡ data_archive (said_by self.now) }
+    {
+        archive_of(self.view().data_fork)
     }
 }
 
