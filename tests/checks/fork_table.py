@@ -10,7 +10,7 @@ import tempfile
 
 from checks.fork_questions import Difference, expect, opening_is_refused, play, questions
 from checks.forks import compare, run
-from model.fork import MESSAGES, Row, listing, open_code, quoted
+from model.fork import MESSAGES, Row, listing, open_code, quoted, told_of
 from places import CASES
 
 TABLE = os.path.join(CASES, "forks.txt")
@@ -104,7 +104,7 @@ def try_list(program, path, case):
     # a file without bytes has no resources
     answer = case.answer if case.fork else []
     if isinstance(answer, str):
-        compare("ls", run(program, ["ls", path]), 3, b"", MESSAGES[answer])
+        compare("ls", run(program, ["ls", path]), 3, b"", told_of(answer, case.fork))
         return
     compare("ls", run(program, ["ls", path]), 0, listing(answer).encode(), "")
     first = {}

@@ -14,7 +14,7 @@ import subprocess
 import tempfile
 
 from checks.fork_questions import Difference, expect, opening_is_refused, questions
-from model.fork import FORMAT, MESSAGES, MOST_BYTES, NoFork, Row, column, listing, open_code, quoted, read_fork, types
+from model.fork import FORMAT, MESSAGES, MOST_BYTES, NoFork, Row, column, listing, open_code, quoted, read_fork, told_of, types
 
 # the forks
 
@@ -215,9 +215,9 @@ LINES = [
     (["get", "FILE"], 2, "Usage"),
     (["get", "FILE", "TEXT"], 2, "Usage"),
     (["get", "FILE", "TEXT", "5", "6"], 2, "Usage"),
-    (["get", "FILE", "TEXT", "5x"], 1, "no such resource"),
-    (["get", "FILE", "TEXT", ""], 1, "no such resource"),
-    (["get", "FILE", "TEXT", "32768"], 1, "no such resource"),
+    (["get", "FILE", "TEXT", "5x"], 1, 'there is no resource TEXT "5x"\n'),
+    (["get", "FILE", "TEXT", ""], 1, 'there is no resource TEXT ""\n'),
+    (["get", "FILE", "TEXT", "32768"], 1, 'there is no resource TEXT "32768"\n'),
     (["get", "FILE", "TEXT", "\\q"], 2, "name"),
     (["get", "FILE", "TEXT", "\u4e2d"], 2, "name"),
     (["get", "FILE", "", "5"], 2, "type"),
@@ -230,24 +230,28 @@ LINES = [
     (["get", "FILE", "\\x4g45", "5"], 2, "type"),
     (["get", "FILE", "\\q", "5"], 2, "type"),
     (["get", "FILE", "\u4e2d", "5"], 2, "type"),
-    (["get", "FILE", "caf\u00e9", "5"], 1, "no such resource"),
+    (["get", "FILE", "caf\u00e9", "5"], 1, "there is no resource caf\u00e9 5\n"),
     (["get", "FILE", "TEXT", "5"], 0, ""),
     (["get", "--nth", "1", "FILE", "TEXT", "5"], 0, ""),
-    (["get", "FILE", "TEXT", "5", "--nth", "2"], 1, "no such resource"),
+    (["get", "FILE", "TEXT", "5", "--nth", "2"], 1, "there is no resource TEXT 5 with --nth 2\n"),
     (["get", "FILE", "TEXT", "5", "--nth", "0"], 2, "--nth"),
     (["get", "FILE", "'TEXT'", "005"], 0, ""),
     (["get", "FILE", "\\x54E\\x58T", "5"], 0, ""),
     (["get", "FILE", "'\\x54\\x45\\x58\\x54'", "5"], 0, ""),
-    (["get", "FILE", "TEXT", "-5"], 1, "no such resource"),
-    (["get", "FILE", "'-abc'", "5"], 1, "no such resource"),
+    (["get", "FILE", "TEXT", "-5"], 1, "there is no resource TEXT -5\n"),
+    (["get", "FILE", "'-abc'", "5"], 1, "there is no resource -abc 5\n"),
     (["get", "FILE", "-abc", "5"], 2, "Usage"),
-    (["get", "FILE", "TEX", "5"], 1, "no such resource"),
-    (["get", "FILE", "TEX ", "5"], 1, "no such resource"),
+    (["get", "FILE", "TEX", "5"], 1, "there is no resource TEX  5\n"),
+    (["get", "FILE", "TEX ", "5"], 1, "there is no resource TEX  5\n"),
     (["ls", "--json", "FILE"], 0, ""),
     (["ls", "--json", "--data", "base64", "FILE"], 0, ""),
     (["ls", "--data", "base64", "FILE"], 2, "--json"),
     (["ls", "--json", "--data", "hex", "FILE"], 2, "base64"),
     (["ls", "--json", "--types", "FILE"], 2, "--types"),
+    (["ls", "--json", "--paths", "FILE"], 2, "--json"),
+    (["ls", "--sha256", "--types", "FILE"], 2, "--types"),
+    (["check", "--sha256", "FILE"], 2, "--sha256"),
+    (["info", "--sha256", "FILE"], 0, ""),
     (["info", "--json", "FILE", "FILE"], 0, ""),
     (["check", "FILE", "FILE"], 0, ""),
     (["check"], 2, "Usage"),
@@ -307,7 +311,7 @@ def try_get(program, path, rows, kind, words, is_it):
     found = next((row.data for row in rows if row.kind == kind and is_it(row)), None)
     got = run(program, ["get", path, *words])
     if found is None:
-        compare(f"get {words}", got, 1, b"", "no such resource")
+        compare(f"get {words}", got, 1, b"", "there is no resource ")
     else:
         compare(f"get {words}", got, 0, found, "")
 
@@ -319,7 +323,7 @@ def try_fork(program, path, fork, choices):
     try:
         rows = read_fork(fork, FORMAT) if fork else []
     except NoFork as fault:
-        told = MESSAGES[fault.args[0]]
+        told = told_of(fault.args[0], fork)
         compare("ls", run(program, ["ls", path]), 3, b"", told)
         compare("get", run(program, ["get", path, "TEXT", "128"]), 3, b"", told)
         return fault.args[0]

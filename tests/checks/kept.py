@@ -60,8 +60,12 @@ def mac_binary(version, fork):
 
 
 def bin_hex(fork):
-    head = bytes([len(NAME)]) + NAME + b"\0" + KIND + CREATOR + struct.pack(">HII", 0, len(DATA), len(fork))
-    whole = b"".join(part + struct.pack(">H", binascii.crc_hqx(part, 0)) for part in (head, DATA, fork))
+    return bin_hex_of(DATA, fork)
+
+
+def bin_hex_of(data, fork):
+    head = bytes([len(NAME)]) + NAME + b"\0" + KIND + CREATOR + struct.pack(">HII", 0, len(data), len(fork))
+    whole = b"".join(part + struct.pack(">H", binascii.crc_hqx(part, 0)) for part in (head, data, fork))
     runs = whole.replace(b"\x90", b"\x90\0")
     bits = "".join(f"{byte:08b}" for byte in runs)
     bits += "0" * (-len(bits) % 6)
@@ -134,6 +138,7 @@ NONE = [
     ("a text", b"no fork at all, but a text of more than sixteen bytes", "neither a resource fork"),
     ("AppleDouble without one", apple(0x51607, [(9, finder_info())]), "it has no resource fork"),
     ("MacBinary without one", mac_binary(2, b""), "it has no resource fork"),
+    ("BinHex without one", bin_hex(b""), "it has no resource fork"),
     ("a zip archive", b"PK\x03\x04" + bytes(60), "a zip archive, which resfork doesn't unpack: unzip "),
     ("a gzip file", b"\x1f\x8b\x08" + bytes(60), "a gzip file, which resfork doesn't unpack: gunzip -k "),
 ]

@@ -120,6 +120,8 @@ def try_name(room, name, fork):
     back = typed_back(advice.group(1))
     must(f"what bash reads of {advice.group(1)!r}", back, ("./" + path if path.startswith("-") else path).encode())
     must("how many lines the name takes", said.count("\n"), 3)
+    with open(room.path("good"), "rb") as good:
+        room.write(name, good.read())
     _, titles, _ = room.run("ls", "--", path, "good")
     must(f"the title of {name!r}", titles.split("\n")[0], shown(path) + ":")
     os.remove(room.path(name))

@@ -26,7 +26,7 @@ LINES = {
     "docs/DESIGN.md": 198,
     "docs/DIFFERENCES.md": 88,
     "docs/EMULATORS.md": 95,
-    "docs/FILES.md": 115,
+    "docs/FILES.md": 119,
     "docs/FORMAT.md": 78,
     "docs/SCRIPT.md": 266,
     "docs/THEOREM.md": 145,

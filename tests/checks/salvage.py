@@ -120,6 +120,9 @@ def try_refused(program, path, fork):
         must(status == 3, f"ls shows a fork that isn't read, for {fault.args[0]}")
         (checked, line), (listing_status, json_list) = listed(program, path)
         must((checked, listing_status) == (3, 3) and json_list["status"] == 3, "the status of a damaged fork isn't 3")
+        if "faults" not in line:
+            must(line == json_list, f"check is refused with {line}, and ls with {json_list}")
+            return True
         messages = [it["message"] for it in line["faults"]]
         must(MESSAGES[fault.args[0]].search(messages[0]), f"the first of {messages} is not of {fault.args[0]}")
         must(messages[0] in told, f"{told!r} is not the first of {messages}")

@@ -12,7 +12,7 @@ import tempfile
 from checks.fork_questions import Difference
 from checks.kept import KEPT
 from model.container import TOLD, NoContents, resource_fork
-from model.fork import FORMAT, MESSAGES, NoFork, listing, read_fork
+from model.fork import FORMAT, NoFork, listing, read_fork, told_of
 
 AT_ONCE = 400
 # two types, one of them with two resources; names; the map after the data
@@ -57,7 +57,7 @@ def wanted(file):
     try:
         return listing(read_fork(fork, FORMAT) if fork else [])
     except NoFork as fault:
-        return MESSAGES[fault.args[0]]
+        return told_of(fault.args[0], fork)
 
 
 def try_files(program, folder, some):
@@ -70,7 +70,8 @@ def try_files(program, folder, some):
     output, told, refused = done.stdout.decode(), "\n" + done.stderr.decode(), 0
     for name, (what, file) in zip(names, some):
         answer = wanted(file)
-        shown = f"{name}:\n{answer if isinstance(answer, str) else ''}"
+        # a file that has none isn't named
+        shown = f"{name}:\n{answer}" if isinstance(answer, str) and answer else ""
         if not output.startswith(shown):
             raise Difference(f"{what}: it wrote {output[:200]!r} and not {shown[:200]!r}, and told {told[:200]!r}")
         output = output[len(shown) :]

@@ -41,6 +41,13 @@ MESSAGES = {
 MESSAGES = {condition: re.compile(told) for condition, told in MESSAGES.items()}
 
 
+def told_of(condition, fork):
+    """What is said of bytes that are no fork for this condition. Of a text, whose first bytes aren't zero, it may be that nothing is known."""
+    if 0 in fork[:16] or len(fork) < 16:
+        return MESSAGES[condition]
+    return re.compile(MESSAGES[condition].pattern + "|neither a resource fork nor a file that has one in it\n")
+
+
 class NoFork(Exception):
     """The bytes are no fork; the argument says which condition is the first that doesn't hold."""
 

@@ -1,8 +1,8 @@
 //! The resource fork in a file.
 
-ghost use Rattle.std.specs.Prelude.{◌≡◌, IfErr, IfOk};
+ghost use Rattle.std.specs.Prelude.{◌≡◌, IfErr, IfOk, Ok};
 ghost use Rattle.mac_files.specs.Kinds.{kind_of};
-ghost use Rattle.mac_files.specs.OldFiles.{fork_of, kind_by};
+ghost use Rattle.mac_files.specs.OldFiles.{fork_of, kind_by, old_file, said_by};
 ghost use Rattle.fork_answer.specs.Source.{IsForkIn, IsNoForkIn};
 
 use mac_files::OldFile;
@@ -24,6 +24,7 @@ pub enum NoFork {
 /// The file that bytes hold, which has a resource fork.
 pub fn resource_fork<'a>(alloc: Global, file: &'a [u8]) -> Result<OldFile<'a>, NoFork>
     ensures fork { IfOk result (λ found. IsForkIn file.now (fork_of found)) }
+    ensures file { IfOk result (λ found. old_file file.now ≡ Ok (said_by found)) }
     ensures kind { IfOk result (λ found. kind_by found ≡ kind_of file.now) }
     ensures none { IfErr result (IsNoForkIn file.now) }
 {

@@ -1,10 +1,13 @@
 -- What is reported of a failure.
-use Rattle.std.proofs.Common.{◌≡◌, ◌≢◌, ℕ, Bool, true, false, List, Option, None, Some, Result, Ok, Err, IfNone, IfOk, IfSome, Vec, refl, sym, ap, ◌∙◌, subst, arith}
-use Rattle.std.specs.Prelude.{[], ◌==◌, ◌↔◌, ◌∷◌, IsTrue, length, not, is_some, String}
+use Rattle.std.proofs.Common.{inl, inr, ◌≡◌, ◌≢◌, ℕ, Bool, true, false, List, Option, None, Some, Result, Ok, Err, IfNone, IfOk, IfSome, Vec, refl, sym, ap, ◌∙◌, subst, arith}
+use Rattle.std.specs.Prelude.{[], ◌⊎◌, unwrap_or, ◌==◌, ◌↔◌, ◌∷◌, IsTrue, length, not, is_some, String}
 use Rattle.std.specs.declared.alloc.AllocError.{AllocError}
 use Rattle.std.specs.declared.alloc.Global.{Global}
 use Rattle.std.proofs.lemmas.Bool.{ltb-true, ne_eqb}
 use Rattle.fork_bytes.specs.declared.fault.ForkFault.{ForkFault}
+use Rattle.fork_bytes.specs.declared.fault.ForkFault.TheVariants as fork_fault
+use Rattle.fork_bytes.specs.declared.table.Table.{Table}
+use Rattle.fork_answer.specs.Answer.{IsTableOf}
 use Rattle.fork_bytes.specs.Fork.{IsForkWithin, RefusesWithin, format_limits}
 use Rattle.fork_salvage.specs.declared.fault.Fault.{Fault}
 use Rattle.fork_salvage.specs.Fault.{refusal_of}
@@ -13,7 +16,12 @@ use Rattle.mac_files.specs.declared.kind.FileKind.TheVariants.{BinHex}
 use Rattle.mac_files.specs.declared.old_file.FileFault.{FileFault}
 use Rattle.mac_files.specs.declared.old_file.FileFault.TheVariants.{Container, HostFull, Text}
 use Rattle.mac_files.specs.Kinds.{kind_of}
-use Rattle.mac_files.specs.OldFiles.{fork_said, old_file}
+use Rattle.mac_files.specs.declared.archive.Archive.{Archive}
+use Rattle.mac_files.specs.declared.old_file.OldFile.{OldFile}
+use Rattle.mac_files.specs.OldFiles.{IsUnopened, fork_of, fork_said, old_file, said_by}
+use Rattle.fork_answer.proofs.Opened.{has_fork}
+use Rattle.fork_answer.specs.declared.answer.Failure.{Failure}
+use Rattle.fork_answer.specs.declared.answer.Failure.TheVariants as failure
 use Rattle.fork_answer.specs.declared.source.NoFork.{NoFork}
 use Rattle.fork_answer.specs.declared.source.NoFork.TheVariants as no_fork
 use Rattle.fork_answer.specs.Source.{IsForkIn, IsNoForkIn}
@@ -22,17 +30,45 @@ use Rattle.fork_report.specs.declared.damage.Tally.{Tally}
 use Rattle.fork_report.specs.declared.refusal.Refusal.{Refusal}
 use Rattle.fork_report.specs.declared.refusal.Refusal.TheVariants as refusal
 use Rattle.fork_report.specs.Damage.{IsDamageOf, IsDamaged, is_readable, tally_of}
-use Rattle.fork_report.specs.Refused.{IsTakenForFork, IsToldOfFork}
-use Rattle.fork_report.specs.Reported.{TellsLeft}
+use Rattle.fork_report.specs.Inside.{IsInside, archive_inside}
+use Rattle.fork_report.specs.Refused.{IsCause, IsForkCause, IsNoFork, IsTakenForFork, IsToldDamaged, IsToldOf, IsToldOfFork, IsToldUnknown, begins_as_fork}
+use Rattle.fork_report.specs.Reported.{IsTaken, TellsLeft}
 
 refused : (file fork : List ℕ) (why : FileFault) → IsForkIn file fork → old_file file ≡ Err why → ⊥
 refused file fork why has lacks = cc (sym has ∙ ap fork_said lacks)
 
 -- a fork that is damaged, in a file that is taken for one with a fork
-pub told_damaged : (file : List ℕ) (fault : ForkFault) (damage : Damage) (text : String Global) (told : Refusal) → (fork : List ℕ) × IsDamageOf file fork damage
-    → IsTakenForFork (kind_of file) damage → told ≡ refusal.Damaged text (is_readable damage.tally) → IsToldOfFork file fault told
-told_damaged file fault damage text told (fork, is_damage) taken is =
-    subst (λ (r : Refusal). IsToldOfFork file fault r) (sym is) (fork, damage, is_damage, taken, refl)
+pub told_damaged : (file : List ℕ) (fault : ForkFault) (damage : Damage) (told : Refusal) → (fork : List ℕ) × IsDamageOf file fork damage
+    → IsTakenForFork (kind_of file) damage → IsToldDamaged damage told → IsToldOfFork file fault told
+told_damaged file fault damage (refusal.Damaged text readable) (fork, is_damage) taken is = (fork, damage, is_damage, taken, is)
+told_damaged file fault damage (refusal.Show failure.HostFull) has taken is = tt
+told_damaged file fault damage (refusal.Show (failure.NoFork why)) has taken is = absurd is
+told_damaged file fault damage (refusal.Show (failure.Fork why)) has taken is = absurd is
+told_damaged file fault damage (refusal.Show failure.NotFound) has taken is = absurd is
+told_damaged file fault damage (refusal.Show (failure.Write why)) has taken is = absurd is
+told_damaged file fault damage (refusal.Container kept why) has taken is = absurd is
+told_damaged file fault damage (refusal.Archive archive) has taken is = absurd is
+told_damaged file fault damage (refusal.Inside archive) has taken is = absurd is
+told_damaged file fault damage refusal.Nothing has taken is = absurd is
+told_damaged file fault damage refusal.TooMuch has taken is = absurd is
+told_damaged file fault damage (refusal.Unknown told) has taken is = absurd is
+told_damaged file fault damage refusal.NoHeader has taken is = absurd is
+
+-- that nothing is known of a file
+pub told_unknown : (file : List ℕ) (fault : ForkFault) (told : Refusal) → IsNoFork file → begins_as_fork file ≡ true → IsToldUnknown told → IsToldOfFork file fault told
+told_unknown file fault (refusal.Unknown text) none begins is = (none, begins)
+told_unknown file fault (refusal.Show failure.HostFull) none begins is = tt
+told_unknown file fault (refusal.Show (failure.NoFork why)) none begins is = absurd is
+told_unknown file fault (refusal.Show (failure.Fork why)) none begins is = absurd is
+told_unknown file fault (refusal.Show failure.NotFound) none begins is = absurd is
+told_unknown file fault (refusal.Show (failure.Write why)) none begins is = absurd is
+told_unknown file fault (refusal.Container kept why) none begins is = absurd is
+told_unknown file fault (refusal.Archive archive) none begins is = absurd is
+told_unknown file fault (refusal.Inside archive) none begins is = absurd is
+told_unknown file fault (refusal.Damaged text readable) none begins is = absurd is
+told_unknown file fault refusal.Nothing none begins is = absurd is
+told_unknown file fault refusal.TooMuch none begins is = absurd is
+told_unknown file fault refusal.NoHeader none begins is = absurd is
 
 -- a file has a fork or lacks one, unless the host has no memory for that of a text
 pub apart : (file fork : List ℕ) (fault : NoFork) → kind_of file ≢ BinHex → IsForkIn file fork → IsNoForkIn file fault → ⊥
@@ -86,3 +122,51 @@ pub told_damage : (fork : List ℕ) (faults shown : List Fault) (test : Bool) �
     → (faults ≡ [] → ¬ IsDamaged fork) → IsTrue (not test) ↔ IsDamaged fork
 told_damage fork faults shown test same is damaged whole =
     told_of fork faults test (is ∙ ap (λ (t : List Fault). length t == 0) same) damaged whole
+
+-- the archive in an opened file
+pub inside_of : (file : List ℕ) (found : OldFile) (archive : Option Archive) → old_file file ≡ Ok (said_by found) → archive ≡ archive_inside (said_by found)
+    → IsInside file archive
+inside_of file found (Some archive) is same = (said_by found, is, sym same)
+inside_of file found None is same = λ other it read.
+    let one : it ≡ said_by found = cc (sym read ∙ is) in ap archive_inside one ∙ sym same
+
+-- none is in a file that isn't opened
+pub not_inside : (file : List ℕ) (why : FileFault) → IsUnopened (kind_of file) file why → IsInside file None
+not_inside file HostFull why = λ other it read. absurd (other why)
+not_inside file (Container fault) why = λ other it read. let no : ⊥ = cc (sym read ∙ why) in absurd no
+not_inside file (Text fault) why = λ other it read. let no : ⊥ = cc (sym read ∙ why) in absurd no
+
+some_if_any : (fork : Option (List ℕ)) → unwrap_or fork [] ≢ [] → is_some fork ≡ true
+some_if_any None some = absurd (some refl)
+some_if_any (Some bytes) some = refl
+
+-- why the fork in a file isn't read is why nothing is reported of the file
+pub fork_cause : (file fork : List ℕ) (why : Failure) → IsForkIn file fork → IsForkCause fork why → IsCause file why
+fork_cause file fork (failure.Fork fault) has cause = (fork, has, cause)
+fork_cause file fork failure.HostFull has cause = tt
+fork_cause file fork (failure.NoFork fault) has cause = absurd cause
+fork_cause file fork failure.NotFound has cause = absurd cause
+fork_cause file fork (failure.Write fault) has cause = absurd cause
+
+-- the same of an opened file, which may have none
+pub opened_cause : (file : List ℕ) (found : OldFile) (why : Failure) → old_file file ≡ Ok (said_by found) → IsForkCause (fork_of found) why → IsCause file why
+opened_cause file found (failure.Fork fault) is cause =
+    (fork_of found, has_fork file found is (some_if_any (said_by found).resource_fork cause.0), cause)
+opened_cause file found failure.HostFull is cause = tt
+opened_cause file found (failure.NoFork fault) is cause = absurd cause
+opened_cause file found failure.NotFound is cause = absurd cause
+opened_cause file found (failure.Write fault) is cause = absurd cause
+
+-- a fork that stands for a table isn't damaged
+pub not_damaged : (fork : List ℕ) (table : Table) → IsTableOf fork table → ¬ IsDamaged fork
+not_damaged fork table (inl none) = λ damaged. damaged.0 none.0
+not_damaged fork table (inr stands) = λ damaged. damaged.1 stands.0
+
+-- a file of which it is reported that its fork is damaged
+pub taken_if : (file fork : List ℕ) (fault : ForkFault) (text : String Global) (readable : Bool) → IsForkIn file fork
+    → IsToldOf file (failure.Fork fault) (refusal.Damaged text readable) → IsTaken file fork
+taken_if file fork fork_fault.EndOfFile text readable has (other, damage, is, taken, rest) =
+    inr (damage, subst (λ (f : List ℕ). IsDamageOf file f damage) (same_fork file other fork is.found has) is, taken)
+taken_if file fork (fork_fault.BadMap condition) text readable has (other, damage, is, taken, rest) =
+    inr (damage, subst (λ (f : List ℕ). IsDamageOf file f damage) (same_fork file other fork is.found has) is, taken)
+taken_if file fork fork_fault.HostFull text readable has told = absurd (cc told)

@@ -1,16 +1,20 @@
 //! What a file is.
 
 ghost use Rattle.std.specs.Prelude.{◌≡◌, IfErr, IfOk, Ok};
-ghost use Rattle.mac_files.specs.OldFiles.{old_file, said_by};
+ghost use Rattle.mac_files.specs.OldFiles.{fork_of, old_file, said_by};
 ghost use Rattle.fork_report.specs.Refused.{IsCause, IsForkCause};
 
+use crate::digest::digest_text;
+use crate::json_row::Digests;
+use file_facts::{FileDate, color_of, date_of, flags_of};
 use fork_answer::{Failure, NoFork, read_table};
 use fork_bytes::table::Table;
 use fork_list::letters::Letters;
 use fork_list::{KindText, Quoted, types_listing};
 use mac_base::resource::ResType;
 use mac_files::OldFile;
-use mac_files::contents::FinderInfo;
+use mac_files::contents::{Dates, FinderInfo};
+use mac_files::kind::FileKind;
 use std::alloc::{AllocError, Global};
 
 /// Adds the lines of a name, and of a type and a creator.
@@ -21,8 +25,76 @@ fn push_name(text: &mut String, name: &[u8], finder: FinderInfo) -> Result<(), A
     write!(text, "name: {name}\ntype: {kind}\ncreator: {creator}\n")
 }
 
+/// Adds a line of the Finder flags that are set, if some are, with commas between them.
+fn push_flags(alloc: Global, text: &mut String, flags: u16) -> Result<(), AllocError> {
+    let mut separator = "flags: ";
+    for flag in &flags_of(alloc, flags)? {
+        write!(text, "{separator}{flag}")?;
+        separator = ",";
+    }
+    let color = color_of(flags);
+    if color != 0 {
+        write!(text, "{separator}color:{color}")?;
+        separator = ",";
+    }
+    if separator == "," {
+        text.push('\n')?;
+    }
+    Ok(())
+}
+
+/// When a file was made and last changed, as far as it says so.
+pub(crate) fn dates_of(
+    kind: FileKind,
+    dates: Option<Dates>,
+) -> (Option<FileDate>, Option<FileDate>) {
+    match dates {
+        Some(dates) => (date_of(kind, dates.created), date_of(kind, dates.modified)),
+        None => (None, None),
+    }
+}
+
+/// Adds lines of the dates of a file, as far as it says some, and of its comment, if it has one.
+fn push_dates(text: &mut String, found: &OldFile<'_>) -> Result<(), AllocError> {
+    let view = found.view();
+    let (created, modified) = dates_of(found.kind(), view.dates);
+    if let Some(date) = created {
+        writeln!(text, "created: {date}")?;
+    }
+    if let Some(date) = modified {
+        writeln!(text, "modified: {date}")?;
+    }
+    if view.comment.is_empty() {
+        return Ok(());
+    }
+    let comment = Quoted::double(Letters::Roman, view.comment);
+    writeln!(text, "comment: {comment}")
+}
+
+/// Adds the line of a fork, and the digest of its bytes where digests are shown.
+fn push_length(
+    alloc: Global,
+    text: &mut String,
+    fork: &str,
+    digests: Digests,
+    bytes: &[u8],
+) -> Result<(), AllocError> {
+    let length = bytes.len();
+    write!(text, "{fork}: {length} bytes")?;
+    if digests == Digests::Sha256 {
+        let digest = digest_text(alloc, bytes)?;
+        write!(text, " {digest}")?;
+    }
+    text.push('\n')
+}
+
 /// Adds what is said of a file, in lines, unless it is only taken for a resource fork.
-fn push_told(text: &mut String, found: &OldFile<'_>) -> Result<(), AllocError> {
+fn push_told(
+    alloc: Global,
+    text: &mut String,
+    digests: Digests,
+    found: &OldFile<'_>,
+) -> Result<(), AllocError> {
     let kind = found.kind();
     if !kind.is_known() {
         return Ok(());
@@ -32,9 +104,10 @@ fn push_told(text: &mut String, found: &OldFile<'_>) -> Result<(), AllocError> {
     writeln!(text, "kept as: {kept_as}")?;
     if let Some(finder) = view.finder {
         push_name(text, view.name, finder)?;
+        push_flags(alloc, text, finder.flags)?;
     }
-    let data = view.data_fork.len();
-    writeln!(text, "data fork: {data} bytes")
+    push_dates(text, found)?;
+    push_length(alloc, text, "data fork", digests, view.data_fork)
 }
 
 /// The file that bytes hold, or why they hold none.
@@ -49,37 +122,36 @@ pub(crate) fn opened<'a>(alloc: Global, bytes: &'a [u8]) -> Result<OldFile<'a>, 
 }
 
 /// Adds what a fork holds, in lines.
-fn push_fork(alloc: Global, text: &mut String, fork: &[u8]) -> Result<(), Failure>
+fn push_fork(alloc: Global, text: &mut String, digests: Digests, fork: &[u8]) -> Result<(), Failure>
     ensures { IfErr result (IsForkCause fork.now) }
 {
     let table = read_table(alloc, fork).map_err(Failure::Fork)?;
-    Ok(push_table(alloc, text, fork.len(), &table)?)
+    push_length(alloc, text, "resource fork", digests, fork)?;
+    Ok(push_table(alloc, text, &table)?)
 }
 
-/// Adds what a fork of this length holds, in lines.
-fn push_table(
-    alloc: Global,
-    text: &mut String,
-    length: usize,
-    table: &Table<'_>,
-) -> Result<(), AllocError> {
+/// Adds what a fork holds, in lines.
+fn push_table(alloc: Global, text: &mut String, table: &Table<'_>) -> Result<(), AllocError> {
     let attributes = table.map_attributes;
     let rows = table.rows.as_slice();
     let count = rows.len();
     let types = types_listing(alloc, Letters::Roman, &[], rows)?;
     write!(
         text,
-        "resource fork: {length} bytes\nmap attributes: {attributes}\nresources: {count}\n{types}"
+        "map attributes: {attributes}\nresources: {count}\n{types}"
     )
 }
 
 /// What a file is, in lines: what is said of it, and what its resource fork holds.
-pub fn info_text(alloc: Global, bytes: &[u8]) -> Result<String, Failure>
-    ensures { IfErr result (IsCause bytes.now) }
+pub(crate) fn info_text(
+    alloc: Global,
+    digests: Digests,
+    found: &OldFile<'_>,
+) -> Result<String, Failure>
+    ensures { IfErr result (IsForkCause (fork_of found.now)) }
 {
-    let found = opened(alloc, bytes)?;
     let mut text = String::new(alloc);
-    push_told(&mut text, &found)?;
-    push_fork(alloc, &mut text, found.fork())?;
+    push_told(alloc, &mut text, digests, found)?;
+    push_fork(alloc, &mut text, digests, found.fork())?;
     Ok(text)
 }

@@ -2,19 +2,24 @@
 
 ghost use Rattle.std.specs.Prelude.{◌≡◌, IfErr, IfOk, string_bytes};
 ghost use Rattle.fork_report.specs.Json.{line_of, refused_data};
-ghost use Rattle.fork_report.specs.Refused.{IsCause, IsForkCause};
-ghost use Rattle.fork_report.specs.Reported.{HasTable};
+ghost use Rattle.fork_bytes.specs.declared.table.Table.{Table};
+ghost use Rattle.mac_files.specs.OldFiles.{fork_of};
+ghost use Rattle.fork_answer.specs.Answer.{IsTableOf};
+ghost use Rattle.fork_report.specs.Refused.{IsForkCause};
 
-use crate::info::opened;
+use crate::info::dates_of;
+use crate::inside::{InsideNote, archive_in};
 use crate::json_object::{Object, place_value};
-use crate::json_row::{Bytes, full_rows_value, rows_value};
+use crate::json_row::{Bytes, Digests, full_rows_value, rows_value, with_digest};
 use crate::json_text::{roman_value, text_value};
+use file_facts::{FileDate, color_of, flags_of};
 use fork_answer::warning::Warning;
-use fork_answer::{Failure, read_table, resource_fork};
+use fork_answer::{Failure, read_table};
 use fork_list::HasSize;
 use fork_salvage::Fault;
 use mac_base::resource::{ResType, Resource};
 use mac_files::OldFile;
+use mac_files::archive::Archive;
 use mac_files::container::Container;
 use mac_files::contents::FinderInfo;
 use mac_files::kind::FileKind;
@@ -32,30 +37,27 @@ pub fn refused_line(alloc: Global, file: &str, status: u8, told: &str) -> Result
 }
 
 /// The line of the resources of a file, those of these types or all where none are named.
-pub fn list_line(
+pub(crate) fn list_line(
     alloc: Global,
     file: &str,
     kinds: &[ResType],
-    shown: Bytes,
-    bytes: &[u8],
+    details: (Bytes, Digests),
+    found: &OldFile<'_>,
 ) -> Result<String, Failure>
-    ensures table { IfOk result (λ _. HasTable bytes.now) }
-    ensures refused { IfErr result (IsCause bytes.now) }
+    ensures table { IfOk result (λ _. (table : Table) × IsTableOf (fork_of found.now) table) }
+    ensures refused { IfErr result (IsForkCause (fork_of found.now)) }
 {
-    let found = match resource_fork(alloc, bytes) {
-        Ok(found) => found,
-        Err(fault) => return Err(Failure::NoFork(fault)),
-    };
     let table = match read_table(alloc, found.fork()) {
         Ok(table) => table,
         Err(fault) => return Err(Failure::Fork(fault)),
     };
     let rows = table.rows.as_slice();
-    let values = match shown {
-        Bytes::Hidden => rows_value(alloc, kinds, rows),
-        Bytes::Base64 => full_rows_value(alloc, kinds, rows),
+    let values = match details {
+        (Bytes::Hidden, Digests::Hidden) => rows_value(alloc, kinds, rows),
+        details => full_rows_value(alloc, kinds, details, rows),
     };
-    Ok(resources_line(alloc, file, found.kind(), values)?)
+    let archive = archive_in(found);
+    Ok(resources_line(alloc, file, found.kind(), archive, values)?)
 }
 
 /// The line of these resources of a file that is a resource fork, those of these types or all where none are named.
@@ -66,7 +68,22 @@ pub fn fork_line<D: HasSize>(
     rows: &[Resource<D>],
 ) -> Result<String, AllocError> {
     let values = rows_value(alloc, kinds, rows);
-    resources_line(alloc, file, FileKind::Container(Container::Raw), values)
+    let kind = FileKind::Container(Container::Raw);
+    resources_line(alloc, file, kind, None, values)
+}
+
+/// What is noted of a file without resources, in whose data fork this archive is.
+fn note_value(alloc: Global, file: &str, archive: Archive) -> Result<Value, AllocError> {
+    let note = InsideNote { archive, file };
+    Ok(Value::String(format!(in alloc; "{note}")?))
+}
+
+/// With a note, where there is an archive in the data fork of a file without resources.
+fn with_note(alloc: Global, object: Object, file: &str, archive: Option<Archive>) -> Object {
+    match archive {
+        Some(archive) => object.with("note", note_value(alloc, file, archive)),
+        None => object,
+    }
 }
 
 /// The line of resources of a file that is kept so.
@@ -74,12 +91,13 @@ fn resources_line(
     alloc: Global,
     file: &str,
     kind: FileKind,
+    archive: Option<Archive>,
     resources: Result<Value, AllocError>,
 ) -> Result<String, AllocError> {
-    Object::of_file(alloc, file)
+    let object = Object::of_file(alloc, file)
         .with("container", text_value(alloc, kind.name()))
-        .with("resources", resources)
-        .line()
+        .with("resources", resources);
+    with_note(alloc, object, file, archive).line()
 }
 
 /// A fault of a fork, or what is odd about it: what is reported of it, and its place.
@@ -132,23 +150,56 @@ fn warnings_value(alloc: Global, warnings: &[Warning]) -> Result<Value, AllocErr
 pub fn check_line(
     alloc: Global,
     file: &str,
-    kind: FileKind,
+    found: &OldFile<'_>,
     faults: &[Fault],
     warnings: &[Warning],
 ) -> Result<String, AllocError> {
-    Object::of_file(alloc, file)
-        .with("container", text_value(alloc, kind.name()))
+    let object = Object::of_file(alloc, file)
+        .with("container", text_value(alloc, found.kind().name()))
         .with("faults", faults_value(alloc, faults))
-        .with("warnings", warnings_value(alloc, warnings))
-        .line()
+        .with("warnings", warnings_value(alloc, warnings));
+    with_note(alloc, object, file, archive_in(found)).line()
 }
 
-/// With the name, the type and the creator of a file.
+/// With the name, the type, the creator and the Finder flags of a file.
 fn with_finder(alloc: Global, object: Object, name: &[u8], finder: FinderInfo) -> Object {
     object
         .with("name", roman_value(alloc, name))
         .with("type", roman_value(alloc, &finder.kind))
         .with("creator", roman_value(alloc, &finder.creator))
+        .with("flags", flags_value(alloc, finder.flags))
+}
+
+/// The words for the Finder flags that are set.
+fn flags_value(alloc: Global, flags: u16) -> Result<Value, AllocError> {
+    let mut values = Vec::new(alloc);
+    for flag in &flags_of(alloc, flags)? {
+        serde_json::push(&mut values, text_value(alloc, flag.word())?)?;
+    }
+    let color = color_of(flags);
+    if color != 0 {
+        let word = format!(in alloc; "color:{color}")?;
+        serde_json::push(&mut values, Value::String(word))?;
+    }
+    Ok(Value::Array(values))
+}
+
+/// A date as text, or null where there is none.
+fn date_value(alloc: Global, date: Option<FileDate>) -> Result<Value, AllocError> {
+    match date {
+        Some(date) => Ok(Value::String(format!(in alloc; "{date}")?)),
+        None => Ok(Value::Null),
+    }
+}
+
+/// With the dates and the comment of a file.
+fn with_dates(alloc: Global, object: Object, found: &OldFile<'_>) -> Object {
+    let view = found.view();
+    let (created, modified) = dates_of(found.kind(), view.dates);
+    object
+        .with("created", date_value(alloc, created))
+        .with("modified", date_value(alloc, modified))
+        .with("comment", roman_value(alloc, view.comment))
 }
 
 /// With how many bytes a fork has, its attributes, and how many resources.
@@ -166,7 +217,7 @@ fn with_fork(alloc: Global, object: Object, fork: &[u8]) -> Result<Object, Failu
 }
 
 /// With what is said of a file, unless it is only taken for a resource fork.
-fn with_told(alloc: Global, object: Object, found: &OldFile<'_>) -> Object {
+fn with_told(alloc: Global, object: Object, digests: Digests, found: &OldFile<'_>) -> Object {
     if !found.kind().is_known() {
         return object;
     }
@@ -175,19 +226,31 @@ fn with_told(alloc: Global, object: Object, found: &OldFile<'_>) -> Object {
         Some(finder) => with_finder(alloc, object, view.name, finder),
         None => object,
     };
-    object.with("dataFork", Ok(Value::from(view.data_fork.len())))
+    let object = if found.kind().is_alone() {
+        object
+    } else {
+        with_dates(alloc, object, found)
+    };
+    let object = object.with("dataFork", Ok(Value::from(view.data_fork.len())));
+    with_digest(alloc, object, "dataForkSha256", digests, view.data_fork)
 }
 
 /// The line of what a file is.
-pub fn info_line(alloc: Global, file: &str, bytes: &[u8]) -> Result<String, Failure>
-    ensures { IfErr result (IsCause bytes.now) }
+pub(crate) fn info_line(
+    alloc: Global,
+    file: &str,
+    digests: Digests,
+    found: &OldFile<'_>,
+) -> Result<String, Failure>
+    ensures { IfErr result (IsForkCause (fork_of found.now)) }
 {
-    let found = opened(alloc, bytes)?;
     let object = Object::of_file(alloc, file).with(
         "container",
         text_value(alloc, found.kind().name()),
     );
-    let object = with_told(alloc, object, &found);
+    let object = with_told(alloc, object, digests, found);
     let object = with_fork(alloc, object, found.fork())?;
+    let object = with_digest(alloc, object, "resourceForkSha256", digests, found.fork());
+    let object = with_note(alloc, object, file, archive_in(found));
     Ok(object.line()?)
 }

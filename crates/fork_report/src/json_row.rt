@@ -1,5 +1,6 @@
 //! Resources as JSON.
 
+use crate::digest::digest_text;
 use crate::json_object::Object;
 use crate::json_text::{kind_value, roman_value, text_value};
 use base64::engine::general_purpose::STANDARD;
@@ -17,6 +18,15 @@ pub enum Bytes {
     Hidden,
     /// As a text in base64.
     Base64,
+}
+
+/// Whether digests are shown.
+#[derive(Clone, Copy, Debug, PartialEq, Eq)]
+pub enum Digests {
+    /// They are left out.
+    Hidden,
+    /// SHA-256, in hexadecimal digits.
+    Sha256,
 }
 
 /// The words for the attributes that are set.
@@ -55,12 +65,43 @@ pub(crate) fn row_value<D: HasSize>(alloc: Global, row: &Resource<D>) -> Result<
     row_object(alloc, row).value()
 }
 
-/// A resource with its bytes, as a text in base64.
-fn full_row_value(alloc: Global, row: &Row) -> Result<Value, AllocError> {
-    let text = STANDARD.encode(alloc, row.datum.as_slice())?;
-    row_object(alloc, row)
-        .with("data", Ok(Value::String(text)))
-        .value()
+/// Bytes as a text in base64.
+fn base64_value(alloc: Global, bytes: &[u8]) -> Result<Value, AllocError> {
+    Ok(Value::String(STANDARD.encode(alloc, bytes)?))
+}
+
+/// The object of something with the digest of its bytes, where digests are shown.
+pub(crate) fn with_digest(
+    alloc: Global,
+    object: Object,
+    name: &str,
+    digests: Digests,
+    bytes: &[u8],
+) -> Object {
+    match digests {
+        Digests::Hidden => object,
+        Digests::Sha256 => object.with(name, digest_value(alloc, bytes)),
+    }
+}
+
+/// The digest of bytes.
+fn digest_value(alloc: Global, bytes: &[u8]) -> Result<Value, AllocError> {
+    Ok(Value::String(digest_text(alloc, bytes)?))
+}
+
+/// A resource with its bytes or their digest.
+fn full_row_value(
+    alloc: Global,
+    row: &Row,
+    shown: Bytes,
+    digests: Digests,
+) -> Result<Value, AllocError> {
+    let bytes = row.datum.as_slice();
+    let object = with_digest(alloc, row_object(alloc, row), "sha256", digests, bytes);
+    match shown {
+        Bytes::Hidden => object.value(),
+        Bytes::Base64 => object.with("data", base64_value(alloc, bytes)).value(),
+    }
 }
 
 /// A list of resources without their bytes, those of these types or all where none are named, in the order of the rows.
@@ -78,16 +119,17 @@ pub(crate) fn rows_value<D: HasSize>(
     Ok(Value::Array(values))
 }
 
-/// The same with their bytes.
+/// The same with their bytes or the digests of these.
 pub(crate) fn full_rows_value(
     alloc: Global,
     kinds: &[ResType],
+    (shown, digests): (Bytes, Digests),
     rows: &[Row],
 ) -> Result<Value, AllocError> {
     let mut values = Vec::new(alloc);
     for row in rows {
         if is_chosen(kinds, row.kind) {
-            serde_json::push(&mut values, full_row_value(alloc, row)?)?;
+            serde_json::push(&mut values, full_row_value(alloc, row, shown, digests)?)?;
         }
     }
     Ok(Value::Array(values))

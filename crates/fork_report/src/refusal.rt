@@ -1,10 +1,10 @@
 //! Why nothing is shown of a file's fork.
 
 ghost use Rattle.std.specs.Prelude.{◌≡◌};
-ghost use Rattle.fork_report.specs.Damage.{is_readable};
-ghost use Rattle.fork_report.specs.Refused.{IsToldOf, IsToldOfFork};
+ghost use Rattle.fork_report.specs.Refused.{IsToldDamaged, IsToldUnknown, IsToldOf, IsToldOfFork, begins_as_fork};
 
 use crate::damage::Damage;
+use crate::inside::archive_inside;
 use fork_answer::{Failure, NoFork};
 use fork_bytes::fault::ForkFault;
 use mac_files::archive::Archive;
@@ -29,6 +29,9 @@ pub enum Refusal {
     /// It is an archive or a disk image.
     #[error("{0}")]
     Archive(Archive),
+    /// It has no resources, and its data fork is an archive or the image of a disk.
+    #[error("no resources; its data fork is {0}")]
+    Inside(Archive),
     /// Its fork is damaged: what is reported of that.
     #[error("{told}")]
     Damaged {
@@ -44,6 +47,20 @@ pub enum Refusal {
     /// It is nothing that is known.
     #[error("neither a resource fork nor a file that has one in it: {0}")]
     Unknown(String),
+    /// It is nothing that is known, and doesn't begin as a fork does.
+    #[error("neither a resource fork nor a file that has one in it")]
+    NoHeader,
+}
+
+/// How many bytes the header of a fork has.
+const HEADER_LENGTH: usize = 16;
+
+/// Whether a file begins as a fork does: a byte of its header is zero, as none of a text is, or it ends within the
+/// header.
+fn begins_as_fork(file: &[u8]) -> bool
+    ensures { result ≡ begins_as_fork file.now }
+{
+    file.len() < HEADER_LENGTH || file[..HEADER_LENGTH].contains(&0)
 }
 
 impl Refusal {
@@ -52,24 +69,36 @@ impl Refusal {
         ensures { IsToldOf file.now failure result }
     {
         match failure {
-            Failure::NoFork(fault) => Refusal::of_no_fork(fault, file),
+            Failure::NoFork(NoFork::Absent) => Refusal::of_absent(alloc, file),
+            Failure::NoFork(NoFork::File(fault)) => Refusal::of_fault(fault, file),
             Failure::Fork(fault) => Refusal::of_fork(alloc, fault, file),
             failure => Refusal::Show(failure),
         }
     }
 
-    /// Why a file without a fork to read isn't shown.
-    fn of_no_fork(fault: NoFork, file: &[u8]) -> Refusal
-        ensures { IsToldOf file.now (Failure.NoFork fault) result }
+    /// Why a file that isn't opened isn't shown.
+    fn of_fault(fault: FileFault, file: &[u8]) -> Refusal
+        ensures { IsToldOf file.now (Failure.NoFork (NoFork.File fault)) result }
     {
         match fault {
-            NoFork::File(FileFault::HostFull) => Refusal::Show(Failure::HostFull),
-            NoFork::File(FileFault::Container(_) | FileFault::Text(_)) | NoFork::Absent => {
-                Refusal::Container {
-                    container: kind_of(file).name(),
-                    fault,
-                }
-            }
+            FileFault::HostFull => Refusal::Show(Failure::HostFull),
+            FileFault::Container(_) | FileFault::Text(_) => Refusal::Container {
+                container: kind_of(file).name(),
+                fault: NoFork::File(fault),
+            },
+        }
+    }
+
+    /// Why a file without a resource fork isn't shown.
+    fn of_absent(alloc: Global, file: &[u8]) -> Refusal
+        ensures { IsToldOf file.now (Failure.NoFork NoFork.Absent) result }
+    {
+        match archive_inside(alloc, file) {
+            Some(archive) => Refusal::Inside(archive),
+            None => Refusal::Container {
+                container: kind_of(file).name(),
+                fault: NoFork::Absent,
+            },
         }
     }
 
@@ -84,27 +113,39 @@ impl Refusal {
     }
 
     /// What is reported of a fork that is refused: its first fault, with its place, if this file has a fork at all.
+    #[tactic(auto, using(crate::proofs::Refusing::told_damaged, crate::proofs::Refusing::told_unknown))]
     fn of_damage(alloc: Global, refusal: ForkFault, file: &[u8]) -> Refusal
         ensures { IsToldOfFork file.now refusal result }
     {
         let Some(damage) = Damage::of_file(alloc, file) else {
             return Refusal::Show(Failure::Fork(refusal));
         };
-        let Ok(told) = format!(in alloc; "{damage}") else {
-            return Refusal::Show(Failure::HostFull);
-        };
         match damage.kind {
-            FileKind::Container(_) | FileKind::BinHex => Refusal::damaged(told, damage),
+            FileKind::Container(_) | FileKind::BinHex => Refusal::damaged(alloc, damage),
             FileKind::Archive(archive) => Refusal::Archive(archive),
-            FileKind::Unknown if damage.is_of_fork() => Refusal::damaged(told, damage),
-            FileKind::Unknown => Refusal::Unknown(told),
+            FileKind::Unknown if damage.is_of_fork() => Refusal::damaged(alloc, damage),
+            FileKind::Unknown if !begins_as_fork(file) => Refusal::NoHeader,
+            FileKind::Unknown => Refusal::unknown(alloc, damage),
+        }
+    }
+
+    /// That nothing is known of a file, and what of a fork it lacks.
+    fn unknown(alloc: Global, damage: Damage) -> Refusal
+        ensures { IsToldUnknown result }
+    {
+        match format!(in alloc; "{damage}") {
+            Ok(told) => Refusal::Unknown(told),
+            Err(_) => Refusal::Show(Failure::HostFull),
         }
     }
 
     /// That a fork is damaged.
-    fn damaged(told: String, damage: Damage) -> Refusal
-        ensures { result ≡ Refusal.Damaged told (is_readable damage.tally) }
+    fn damaged(alloc: Global, damage: Damage) -> Refusal
+        ensures { IsToldDamaged damage result }
     {
+        let Ok(told) = format!(in alloc; "{damage}") else {
+            return Refusal::Show(Failure::HostFull);
+        };
         Refusal::Damaged {
             told,
             is_readable: damage.is_readable(),

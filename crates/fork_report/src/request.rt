@@ -3,7 +3,8 @@
 ghost use Rattle.std.specs.Prelude.{◌≡◌};
 ghost use Rattle.fork_report.specs.Reported.{form_of};
 
-use crate::json_row::Bytes;
+use crate::json_row::{Bytes, Digests};
+use fork_answer::request::Choice;
 use mac_base::resource::ResType;
 
 /// In which form something is reported.
@@ -18,12 +19,21 @@ pub enum Form {
 /// What is reported about files.
 #[derive(Drop)]
 pub enum Report {
-    /// What each is.
-    Info(Form),
+    /// What each is, and the digests of its forks.
+    Info {
+        form: Form,
+        digests: Digests,
+    },
     /// All faults of its fork.
     Check(Form),
     /// A list of its resources as JSON, those of these types, or all where none are named.
-    List { kinds: Vec<ResType>, shown: Bytes },
+    List {
+        kinds: Vec<ResType>,
+        shown: Bytes,
+        digests: Digests,
+    },
+    /// A list of its resources as text, with the digest of each.
+    DigestList(Choice),
 }
 
 impl Report {
@@ -32,8 +42,9 @@ impl Report {
         ensures { result ≡ form_of self.now }
     {
         match self {
-            Report::Info(form) | Report::Check(form) => *form,
+            Report::Info { form, .. } | Report::Check(form) => *form,
             Report::List { .. } => Form::Json,
+            Report::DigestList(_) => Form::Text,
         }
     }
 }

@@ -15,18 +15,28 @@ use fork_answer::request::{Choice, Request};
 use fork_list::find::{Key, Wanted};
 use fork_list::letters::Letters;
 use fork_list::{bytes_of, kind_of, name_of};
-use fork_report::{Bytes, Form, Report};
+use fork_report::{Bytes, Digests, Form, Report};
 use fork_view::{Chosen, ShowAs, Unpacking, View};
 use mac_base::resource::ResType;
 use std::alloc::{AllocError, Global};
 use std::convert::AsStr;
 use thiserror::Error;
 
+/// Where the names of several files are in what is shown of them.
+#[derive(Clone, Copy, Debug, PartialEq, Eq)]
+pub enum Titles {
+    /// In a line before those of the file.
+    BeforeFiles,
+    /// At the beginning of each line, of one file too.
+    BeforeLines,
+}
+
 /// Something to be shown of each of these files, on the standard output or in a file of this name.
 #[derive(Drop)]
 pub struct Showing<'a> {
     pub request: Request,
     pub files: Vec<&'a str>,
+    pub titles: Titles,
     pub output: Option<&'a str>,
 }
 
@@ -35,6 +45,7 @@ pub struct Showing<'a> {
 pub struct Reporting<'a> {
     pub report: Report,
     pub files: Vec<&'a str>,
+    pub titles: Titles,
 }
 
 /// What can be read of a damaged file, to be listed or to be written to a file of this name.
@@ -154,7 +165,7 @@ fn asked_for<'a>(alloc: Global, name: &str, matches: &ArgMatches<'a>) -> Result<
     match name {
         "ls" => asked_to_list(alloc, matches),
         "get" => asked_to_get(alloc, matches),
-        "info" => reported(alloc, Report::Info(form_of(matches)), matches),
+        "info" => asked_to_tell(alloc, matches),
         "check" => reported(alloc, Report::Check(form_of(matches)), matches),
         "salvage" => Ok(asked_to_salvage(matches)),
         "show" => asked_to_view(alloc, matches),
@@ -173,6 +184,34 @@ pub(crate) fn form_of(matches: &ArgMatches<'_>) -> Form
     } else {
         Form::Text
     }
+}
+
+/// Whether digests are shown.
+fn digests_of(matches: &ArgMatches<'_>) -> Digests {
+    if matches.get_flag("sha256") {
+        Digests::Sha256
+    } else {
+        Digests::Hidden
+    }
+}
+
+/// Where the names of files are.
+fn titles_of(matches: &ArgMatches<'_>) -> Titles {
+    if matches.get_flag("paths") {
+        Titles::BeforeLines
+    } else {
+        Titles::BeforeFiles
+    }
+}
+
+/// What `info` asks for.
+fn asked_to_tell<'a>(alloc: Global, matches: &ArgMatches<'a>) -> Result<Asked<'a>, NotAsked>
+    ensures fit { IfOk result IsFit }
+    ensures fault { IfErr result IsFault }
+{
+    let form = form_of(matches);
+    let digests = digests_of(matches);
+    reported(alloc, Report::Info { form, digests }, matches)
 }
 
 /// How letters that aren't ASCII are shown.
@@ -206,7 +245,11 @@ fn reported<'a>(
     ensures fault { IfErr result IsFault }
 {
     let files = files_named(alloc, matches)?;
-    Ok(Asked::Report(Reporting { report, files }))
+    Ok(Asked::Report(Reporting {
+        report,
+        files,
+        titles: titles_of(matches),
+    }))
 }
 
 /// What `salvage` asks for.
@@ -247,6 +290,7 @@ fn shown<'a>(
     Ok(Asked::Show(Showing {
         request,
         files,
+        titles: titles_of(matches),
         output: matches.get_str("output"),
     }))
 }
@@ -262,11 +306,15 @@ fn asked_to_list<'a>(alloc: Global, matches: &ArgMatches<'a>) -> Result<Asked<'a
         let report = Report::List {
             kinds,
             shown: shown_bytes,
+            digests: digests_of(matches),
         };
         return reported(alloc, report, matches);
     }
     let letters = letters_of(matches);
     let choice = Choice { letters, kinds };
+    if digests_of(matches) == Digests::Sha256 {
+        return reported(alloc, Report::DigestList(choice), matches);
+    }
     if matches.get_flag("types") {
         shown(alloc, Request::Types(choice), matches)
     } else {

@@ -108,7 +108,7 @@ const COMMANDS: &[CommandText] = &[
         name: "info",
         about: "Tells what a file is",
         long_about: Some(
-            "Tells what a file is: its container, its type and creator, how many bytes its forks have, and how many resources of each type there are",
+            "Tells what a file is: its container, its name, type and creator, its Finder flags, its dates and its comment, how many bytes its forks have, and how many resources of each type there are",
         ),
     },
     CommandText {
@@ -227,6 +227,12 @@ const WORDS: &[Word] = &[
         "Shows letters that aren't ASCII as \\xHH, and not as the characters that they are in MacRoman"),
     word!("ls" "info" "check", "json", Form::Long("json"), Values::Flag;
         "One line of JSON for each file"),
+    word!("ls", "paths", Form::Long("paths"), Values::Flag, rival: Some("json");
+        "Each line begins with the file's name, also that of one file"),
+    word!("ls", "sha256", Form::Long("sha256"), Values::Flag, rival: Some("types");
+        "The SHA-256 digest of each resource's bytes, at the end of its line"),
+    word!("info", "sha256", Form::Long("sha256"), Values::Flag;
+        "The SHA-256 digests of both forks"),
     word!("diff", "json", Form::Long("json"), Values::Flag;
         "What differs as a line of JSON"),
     word!("ls", "data", Form::Long("data"), Values::One("FORM");

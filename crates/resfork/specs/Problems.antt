@@ -1,6 +1,5 @@
 -- What is in the way of a command.
-use Rattle.std.specs.Prelude.{◌≡◌, ◌≢◌, ℕ, ◌⊎◌, true, List, codes, Option, None, Some, string_bytes, bytes_eq, if◌then◌else◌}
-use Rattle.path_text.specs.ShellWords.{shell_word}
+use Rattle.std.specs.Prelude.{◌≡◌, ◌≢◌, ℕ, ◌⊎◌, true, List, codes, Option, None, Some, string_bytes}
 use Rattle.std.specs.Option.{option_map_or}
 use Rattle.fork_edit.specs.declared.change.NotChanged.{NotChanged}
 use Rattle.fork_edit.specs.declared.change.NotChanged.TheVariants as unchanged
@@ -45,7 +44,3 @@ IsIdle target = (target.output ≡ None) ⊎ (target.is_dry ≡ true)
 -- the file that is written: another one, or the one that is read
 abbrev pub written_file : Target → List ℕ
 written_file target = option_map_or (λ path. path.now) target.output target.file.now
-
--- a file as a word of a command that can be typed; "-" is the standard input
-abbrev pub operand : List ℕ → List ℕ
-operand file = if bytes_eq file (codes "-") then codes "-" else shell_word file

@@ -14,6 +14,7 @@ use Rattle.resfork.specs.declared.message.Problem.TheVariants as problem
 -- there is no such resource, or it is there already
 abbrev pub is_of_resource : Problem → Bool
 is_of_resource (problem.Refused (refusal.Show failure.NotFound)) = true
+is_of_resource (problem.NotFound shown) = true
 is_of_resource (problem.View sight.NotFound) = true
 is_of_resource (problem.Edit (edit.Missing what)) = true
 is_of_resource (problem.Edit edit.Taken) = true

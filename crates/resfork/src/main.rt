@@ -20,22 +20,26 @@ mod work;
 use fork_answer::answer::answer;
 use fork_answer::request::Request;
 use fork_answer::{Failure, read_table, resource_fork};
-use fork_bytes::table::Table;
+use fork_bytes::table::{Row, Table};
 use fork_disk::{Record, Unknown};
 use fork_report::{
-    Bytes, Form, Refusal, Report, Told, refused_line, report_on, salvage, salvage_list,
+    Bytes, Digests, Form, InsideNote, Refusal, Report, Told, archive_inside, each_line,
+    refused_line, report_on, salvage, salvage_list,
 };
 use fork_view::unpack::unpack;
-use fork_view::{Sight, Unpacking, sight_of};
+use fork_view::{Chosen, NotShown, Sight, Unpacking, sight_of};
 use fork_words::asked::{
-    Asked, Command, NotAsked, Reporting, Salvaging, Showing, Viewing, asked_by,
+    Asked, Command, NotAsked, Reporting, Salvaging, Showing, Titles, Viewing, asked_by,
 };
 use fork_words::{INPUT, work as asked_change};
 use host::Host;
 use input::{NotRead, read_file, read_within};
 use lines::in_lines;
 use mac_files::OldFile;
-use message::{BAD_WORDS, CANT_GO_ON, DONE, NO_FORK, Problem, tell_bad_words, tell_problem};
+use mac_files::archive::Archive;
+use message::{
+    BAD_WORDS, CANT_GO_ON, DONE, NO_FORK, Problem, tell_bad_words, tell_inside, tell_problem,
+};
 use parts::{answer_by_parts, list_by_parts};
 use path_text::FileName;
 use save::save_to;
@@ -80,14 +84,29 @@ fn done(host: &Host<'_>, asked: Asked<'_>) -> u8
     }
 }
 
-/// Writes the name of one of several files before what is shown of it.
-fn write_title(host: &Host<'_>, files: &[&str], file: &str) -> Result<(), Problem> {
-    if files.len() <= 1 {
+/// Writes lines about one of these files, if there are some: after its name where there are several files, or each with
+/// its name.
+fn write_lines(
+    host: &Host<'_>,
+    titles: Titles,
+    files: &[&str],
+    file: &str,
+    lines: &[u8],
+) -> Result<(), Problem> {
+    let alloc = host.alloc();
+    let name = FileName(file);
+    if lines.is_empty() {
         return Ok(());
     }
-    let file = FileName(file);
-    let title = format!(in host.alloc(); "{file}:\n")?;
-    write_text(host, &title)
+    if titles == Titles::BeforeLines {
+        let front = format!(in alloc; "{name} ")?;
+        let text = each_line(alloc, front.as_bytes(), lines)?;
+        return host.output().write_all(&text).map_err(Problem::Print);
+    }
+    if files.len() > 1 {
+        write_text(host, &format!(in alloc; "{name}:\n")?)?;
+    }
+    host.output().write_all(lines).map_err(Problem::Print)
 }
 
 /// Shows something of each of these files, and says why some aren't shown. The result is the highest status of them.
@@ -97,9 +116,6 @@ fn show_all(host: &Host<'_>, asked: &Showing<'_>) -> u8
     let files = asked.files.as_slice();
     let mut status = DONE;
     for file in files {
-        if let Err(problem) = write_title(host, files, file) {
-            return finish(host, file, Err(problem));
-        }
         status = status.max(finish(host, file, show(host, asked, file)));
     }
     status
@@ -111,12 +127,33 @@ fn show(host: &Host<'_>, asked: &Showing<'_>, file: &str) -> Result<u8, Problem>
 {
     match asked.output {
         Some(output) => save_answer(host, &asked.request, file, output)?,
-        None if asked.request.is_for_files() && host.rt.stdout().is_terminal() => {
-            return Err(Problem::Terminal);
+        None if !asked.request.is_for_files() => print_list(host, asked, file)?,
+        None if host.rt.stdout().is_terminal() => return Err(Problem::Terminal),
+        None => {
+            write_answer(host, &asked.request, file, &mut host.output())?;
         }
-        None => write_answer(host, &asked.request, file, &mut host.output())?,
     }
     Ok(DONE)
+}
+
+/// Writes a list of what the file of this name has, after its name where there are several files. Where there is
+/// nothing to list, its name isn't written, and what is in its data fork is noted.
+fn print_list(host: &Host<'_>, asked: &Showing<'_>, file: &str) -> Result<(), Problem> {
+    let mut text = Vec::new(host.alloc());
+    let bytes = write_answer(host, &asked.request, file, &mut text)?;
+    if text.is_empty() {
+        let archive = bytes.and_then(|bytes| archive_inside(host.alloc(), &bytes));
+        note_archive(host, file, archive);
+        return Ok(());
+    }
+    write_lines(host, asked.titles, asked.files.as_slice(), file, &text)
+}
+
+/// Notes the archive in a file without resources, if there is one.
+fn note_archive(host: &Host<'_>, file: &str, archive: Option<Archive>) {
+    if let Some(archive) = archive {
+        let _ = tell_inside(host, file, archive);
+    }
 }
 
 /// Writes what is asked for of the file of this name to another.
@@ -131,22 +168,30 @@ fn save_answer(
     save_to(host, output, text.as_slice())
 }
 
-/// Writes what is asked for of the file of this name.
+/// Writes what is asked for of the file of this name. The result are its bytes, where all of them were read.
 fn write_answer<W: Write>(
     host: &Host<'_>,
     request: &Request,
     file: &str,
     output: &mut W,
-) -> Result<(), Problem> {
+) -> Result<Option<Vec<u8>>, Problem> {
     if let Some(shown) = answer_by_parts::<Unknown, W>(host, request, file, output) {
-        return shown.map_err(|failure| Problem::Refused(Refusal::Show(failure)));
+        shown.map_err(|failure| unanswered(host, request, failure, &[]))?;
+        return Ok(None);
     }
-    let alloc = host.alloc();
     let bytes = read(host, file)?;
-    answer(alloc, request, &bytes, output).map_err(|failure| Refusal::of_failure(
-        alloc, failure, &bytes,
+    answer(host.alloc(), request, &bytes, output).map_err(|failure| unanswered(
+        host, request, failure, &bytes,
     ))?;
-    Ok(())
+    Ok(Some(bytes))
+}
+
+/// Why what is asked for isn't shown of a file with these bytes. A resource that isn't there is named.
+fn unanswered(host: &Host<'_>, request: &Request, failure: Failure, bytes: &[u8]) -> Problem {
+    match (request, failure) {
+        (Request::Get(wanted), Failure::NotFound) => Problem::of_missing(host.alloc(), wanted),
+        (_, failure) => Problem::Refused(Refusal::of_failure(host.alloc(), failure, bytes)),
+    }
 }
 
 /// Reports on each of these files, and says why of some nothing is reported. The result is the highest status of them.
@@ -154,26 +199,27 @@ fn report_all(host: &Host<'_>, asked: &Reporting<'_>) -> u8
     ensures { result ≤ CANT_GO_ON }
 {
     let files = asked.files.as_slice();
-    let is_text = matches!(asked.report.form(), Form::Text);
     let mut status = DONE;
     for file in files {
-        if is_text && let Err(problem) = write_title(host, files, file) {
-            return finish(host, file, Err(problem));
-        }
-        status = status.max(finish(host, file, report_one(host, &asked.report, file)));
+        status = status.max(finish(host, file, report_one(host, asked, file)));
     }
     status
 }
 
 /// Reports on the file of this name. The result is its status, or why nothing is reported.
-fn report_one(host: &Host<'_>, report: &Report, file: &str) -> Result<u8, Problem>
+fn report_one(host: &Host<'_>, asked: &Reporting<'_>, file: &str) -> Result<u8, Problem>
     ensures { IfOk result (λ status. status ≤ NO_FORK) }
 {
-    match report_file(host, report, file) {
-        Ok(told) => print_told(host, &told),
-        Err(problem) if matches!(report.form(), Form::Json) => Err(refused(host, file, problem)),
+    match report_file(host, &asked.report, file) {
+        Ok(told) => print_told(host, asked, file, &told),
+        Err(problem) if is_json(&asked.report) => Err(refused(host, file, problem)),
         Err(problem) => Err(problem),
     }
+}
+
+/// Whether a report is one of lines of JSON, in which each file is named.
+fn is_json(report: &Report) -> bool {
+    matches!(report.form(), Form::Json)
 }
 
 /// What is reported of the file of this name.
@@ -181,6 +227,7 @@ fn report_file(host: &Host<'_>, report: &Report, file: &str) -> Result<Told, Pro
     if let Report::List {
         kinds,
         shown: Bytes::Hidden,
+        digests: Digests::Hidden,
     } = report
         && let Some(line) = list_by_parts::<Unknown>(host, file, kinds.as_slice())
     {
@@ -190,11 +237,22 @@ fn report_file(host: &Host<'_>, report: &Report, file: &str) -> Result<Told, Pro
     Ok(report_on(host.alloc(), report, file, &bytes)?)
 }
 
-/// Writes what is reported of a file. The result is its status.
-fn print_told(host: &Host<'_>, told: &Told) -> Result<u8, Problem>
+/// Writes what is reported of the file of this name, and notes the archive in it. The result is its status.
+fn print_told(
+    host: &Host<'_>,
+    asked: &Reporting<'_>,
+    file: &str,
+    told: &Told,
+) -> Result<u8, Problem>
     ensures { IfOk result (λ status. status ≡ (if told.now.is_damaged then NO_FORK else DONE)) }
 {
-    write_text(host, &told.text)?;
+    if is_json(&asked.report) {
+        write_text(host, &told.text)?;
+    } else {
+        let files = asked.files.as_slice();
+        write_lines(host, asked.titles, files, file, told.text.as_bytes())?;
+    }
+    note_archive(host, file, told.archive);
     Ok(if told.is_damaged { NO_FORK } else { DONE })
 }
 
@@ -211,8 +269,18 @@ fn refused(host: &Host<'_>, file: &str, problem: Problem) -> Problem {
 
 /// The line of JSON for a file that isn't shown.
 fn refusal_line(host: &Host<'_>, file: &str, problem: &Problem) -> Result<String, AllocError> {
-    let told = format!(in host.alloc(); "{problem}")?;
-    refused_line(host.alloc(), file, problem.status(), told.as_str())
+    let alloc = host.alloc();
+    let told = match problem {
+        Problem::Refused(Refusal::Inside(archive)) => {
+            let note = InsideNote {
+                archive: *archive,
+                file,
+            };
+            format!(in alloc; "{note}")?
+        }
+        problem => format!(in alloc; "{problem}")?,
+    };
+    refused_line(alloc, file, problem.status(), told.as_str())
 }
 
 /// Writes a text in one piece.
@@ -313,11 +381,33 @@ fn use_table_in<U: TableUse>(host: &Host<'_>, bytes: &[u8], table_use: &U) -> Re
 impl TableUse for Viewing<'_> {
     /// The resources are shown to people.
     fn done(&self, host: &Host<'_>, _bytes: &[u8], table: &Table<'_>) -> Result<u8, Problem> {
-        let sight = sight_of(host.alloc(), &self.view, table.rows.as_slice()).map_err(
-            Problem::View,
-        )?;
+        let rows = table.rows.as_slice();
+        check_kind(&self.view.chosen, rows)?;
+        let sight = sight_of(host.alloc(), &self.view, rows).map_err(|fault| unseen(
+            host,
+            &self.view.chosen,
+            fault,
+        ))?;
         write_sight(host, &sight, self.output)?;
         Ok(DONE)
+    }
+}
+
+/// Whether there is a resource of the type of which all are asked for.
+fn check_kind(chosen: &Chosen, rows: &[Row<'_>]) -> Result<(), Problem> {
+    match chosen {
+        Chosen::Kind(kind) if !rows.iter().any(|row| row.kind == *kind) => {
+            Err(Problem::NoKind(*kind))
+        }
+        _ => Ok(()),
+    }
+}
+
+/// Why nothing is shown of what was chosen. A resource that isn't there is named.
+fn unseen(host: &Host<'_>, chosen: &Chosen, fault: NotShown) -> Problem {
+    match (chosen, fault) {
+        (Chosen::One(wanted), NotShown::NotFound) => Problem::of_missing(host.alloc(), wanted),
+        (_, fault) => Problem::View(fault),
     }
 }
 

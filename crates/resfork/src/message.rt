@@ -1,7 +1,7 @@
 //! What is printed on the standard error, and the exit statuses.
 
-ghost use Rattle.std.specs.Prelude.{◌≡◌, Some};
-ghost use Rattle.resfork.specs.Problems.{IsToldOfChange, after_change, operand};
+ghost use Rattle.std.specs.Prelude.{◌≡◌};
+ghost use Rattle.resfork.specs.Problems.{IsToldOfChange, after_change};
 ghost use Rattle.resfork.specs.Statuses.{status_of, status_of_words};
 
 use crate::host::Host;
@@ -12,20 +12,20 @@ use fork_change::row::ResourceId;
 use fork_edit::change::NotChanged;
 use fork_edit::file::NotWritten;
 use fork_folder::rows::PackFault;
-use fork_list::KindText;
+use fork_list::find::{Key, Wanted};
 use fork_list::letters::Letters;
-use fork_report::Refusal;
+use fork_list::{KindText, Quoted};
+use fork_report::{InsideNote, Opening, Operand, Refusal};
 use fork_rez::fault::RezFault;
 use fork_view::{NotShown, NotUnpacked};
-use fork_words::INPUT;
 use fork_words::asked::NotAsked;
 use mac_base::error::HostFull;
 use mac_base::resource::ResType;
 use mac_files::archive::Archive;
-use path_text::{FileName, Lines, ShellWord};
+use path_text::{FileName, Lines};
 use std::alloc::{AllocError, Global};
+use std::io;
 use std::io::ErrorKind;
-use std::{fmt, io};
 use thiserror::Error;
 
 /// The exit status where all was done.
@@ -58,7 +58,10 @@ pub enum Problem {
     /// It is changed, but the standard output takes no more.
     #[error("it is changed, but what changed can't be shown: {0}")]
     Said(io::Error),
-    /// No resource that is to be copied has this type.
+    /// It has no such resource, which is shown so.
+    #[error("there is no resource {0}")]
+    NotFound(String),
+    /// No resource that is asked for has this type.
     #[error("there is no such resource")]
     NoKind(ResType),
     /// Two resources that are copied have one type and id.
@@ -169,6 +172,14 @@ impl Problem {
         }
     }
 
+    /// That there is no such resource.
+    pub fn of_missing(alloc: Global, wanted: &Wanted) -> Problem {
+        match wanted_text(alloc, wanted) {
+            Ok(text) => Problem::NotFound(text),
+            Err(_) => Problem::HostFull,
+        }
+    }
+
     /// The problem, where a file is changed already.
     pub fn after_change(self) -> Problem
         ensures { result ≡ after_change self }
@@ -185,7 +196,8 @@ impl Problem {
     {
         match self {
             Problem::Refused(refusal) => status_of_refusal(refusal),
-            Problem::View(NotShown::NotFound)
+            Problem::NotFound(_)
+            | Problem::View(NotShown::NotFound)
             | Problem::Edit(fork_change::Refusal::Missing(_))
             | Problem::Edit(fork_change::Refusal::Taken)
             | Problem::NoKind(_)
@@ -216,6 +228,23 @@ impl Problem {
     }
 }
 
+/// A resource that is asked for: its type, its id or its name, and which of several such it is.
+fn wanted_text(alloc: Global, wanted: &Wanted) -> Result<String, AllocError> {
+    let kind = KindText::new(Letters::Roman, wanted.kind);
+    let mut text = match &wanted.key {
+        Key::Id(id) => format!(in alloc; "{kind} {id}")?,
+        Key::Name(name) => {
+            let name = Quoted::double(Letters::Roman, name.as_slice());
+            format!(in alloc; "{kind} {name}")?
+        }
+    };
+    if wanted.nth > 0 {
+        let nth = wanted.nth.saturating_add(1);
+        write!(text, " with --nth {nth}")?;
+    }
+    Ok(text)
+}
+
 /// Says why the file of this name isn't shown, or not all of it.
 pub fn tell_problem(host: &Host<'_>, file: &str, problem: &Problem) {
     if problem.is_silent() {
@@ -223,6 +252,7 @@ pub fn tell_problem(host: &Host<'_>, file: &str, problem: &Problem) {
     }
     let _ = match problem {
         Problem::Refused(Refusal::Archive(archive)) => tell_archive(host, file, *archive),
+        Problem::Refused(Refusal::Inside(archive)) => tell_inside(host, file, *archive),
         Problem::Refused(
             Refusal::Damaged {
                 told,
@@ -235,22 +265,6 @@ pub fn tell_problem(host: &Host<'_>, file: &str, problem: &Problem) {
         Problem::Container(path) => tell_words(host, path.as_str(), problem),
         problem => tell_words(host, file, problem),
     };
-}
-
-/// A file as a word of a command that can be typed.
-#[derive(Clone, Copy)]
-struct Operand<'a>(&'a str);
-
-impl fmt::Display for Operand<'_> {
-    ghost output = { λ o. Some (operand o.0.now) };
-
-    fn fmt<W: fmt::Write>(&self, f: &mut fmt::Formatter<W>) -> fmt::Result {
-        if self.0 == INPUT {
-            return write!(f, "-");
-        }
-        let word = ShellWord(self.0);
-        write!(f, "{word}")
-    }
 }
 
 /// Says that the fork of the file of this name is damaged, and how what can be read is had.
@@ -294,17 +308,17 @@ fn tell_missing(host: &Host<'_>, file: &str, what: ResourceId) -> io::Result<()>
 
 /// Says that the file of this name is an archive, and what opens it.
 fn tell_archive(host: &Host<'_>, file: &str, archive: Archive) -> io::Result<()> {
-    let word = Operand(file);
+    let opening = Opening { archive, file };
     let file = FileName(file);
     let name = archive.name();
-    match archive.command().split_once("FILE") {
-        Some((before, after)) => {
-            eprintln!(host.rt;
-                "{file}: a {name}, which resfork doesn't unpack: {before}{word}{after}"
-            )
-        }
-        None => eprintln!(host.rt; "{file}: a {name}, which resfork doesn't unpack"),
-    }
+    eprintln!(host.rt; "{file}: a {name}, which resfork doesn't unpack: {opening}")
+}
+
+/// Notes that the file of this name has no resources, and this archive in its data fork, and what opens it.
+pub fn tell_inside(host: &Host<'_>, file: &str, archive: Archive) -> io::Result<()> {
+    let note = InsideNote { archive, file };
+    let file = FileName(file);
+    eprintln!(host.rt; "{file}: {note}")
 }
 
 /// Says why the words ask for nothing. The result is the exit status.

@@ -1,7 +1,8 @@
-use Rattle.std.proofs.Common.{ℕ, List, sym, subst}
-use Rattle.fork_answer.specs.Source.{IsForkIn}
+use Rattle.std.proofs.Common.{ℕ, List, subst}
+use Rattle.fork_answer.specs.declared.answer.Failure.TheVariants as failure
+use Rattle.fork_report.specs.Refused.{IsForkCause}
 use Rattle.fork_report.proofs.json.list_line.Goals as goal
 
-pub returns-in-Err-read_table-clause-refused : goal.returns-in-Err-read_table-clause-refused
-returns-in-Err-read_table-clause-refused c =
-    (c.fork.result.now, subst (λ (f : List ℕ). IsForkIn c.args.bytes.now f) (sym c.fork.ensures) c.in-Ok.ensures.fork, c.in-Err-read_table.ensures)
+pub returns-in-Err-clause-refused : goal.returns-in-Err-clause-refused
+returns-in-Err-clause-refused c =
+    subst (λ (f : List ℕ). IsForkCause f (failure.Fork c.in-Err.fault)) c.fork.ensures c.in-Err.ensures
