@@ -151,6 +151,28 @@ refused_as file refusal.TooMuch is = absurd is
 pub taken_other : (file fork : List ℕ) (damage : Damage) → IsDamageOf file fork damage → IsTakenForFork damage.kind damage → LooksLikeFork file
 taken_other file fork damage is_damage taken = (fork, damage, is_damage, subst (λ (k : FileKind). IsTakenForFork k damage) is_damage.kind taken)
 
+-- what is said of a file that isn't taken for one with a fork
+unlike_told : (file fork : List ℕ) (f : ForkFault) (damage : Damage) (told : Refusal) (looks : Bool) → kind_of file ≡ Unknown → IsDamageOf file fork damage
+    → is_of_fork damage ≡ looks → (if looks then None else Some refusal.Unknown) ≡ Some told → IsToldOfFork file f told
+unlike_told file fork f damage told true kind is_damage looks is = absurd (cc is)
+unlike_told file fork f damage told false kind is_damage looks is =
+    subst (λ (r : Refusal). IsToldOfFork file f r) (cc is) (kind, (fork, damage, is_damage, looks))
+
+told_of_other : (file fork : List ℕ) (f : ForkFault) (damage : Damage) (told : Refusal) (k : FileKind) → kind_of file ≡ k → IsDamageOf file fork damage
+    → other_than k (is_of_fork damage) ≡ Some told → IsToldOfFork file f told
+told_of_other file fork f damage told (In container) kind is_damage is = absurd (cc is)
+told_of_other file fork f damage told BinHex kind is_damage is = absurd (cc is)
+told_of_other file fork f damage told (Archive archive) kind is_damage is = subst (λ (r : Refusal). IsToldOfFork file f r) (cc is) kind
+told_of_other file fork f damage told Unknown kind is_damage is = unlike_told file fork f damage told (is_of_fork damage) kind is_damage refl is
+
+pub told_other : (file : List ℕ) (f : ForkFault) (damage : Damage) (told : Refusal) → (fork : List ℕ) × IsDamageOf file fork damage → other_than_fork damage ≡ Some told
+    → IsToldOfFork file f told
+told_other file f damage told (fork, is_damage) is = told_of_other file fork f damage told damage.kind (sym is_damage.kind) is_damage is
+
+-- and of one that is
+pub told_taken : (file : List ℕ) (damage : Damage) → (fork : List ℕ) × IsDamageOf file fork damage → other_than_fork damage ≡ None → IsTakenForFork (kind_of file) damage
+told_taken file damage (fork, is_damage) none = subst (λ (k : FileKind). IsTakenForFork k damage) is_damage.kind (taken_of damage.kind damage none)
+
 -- Why a file is refused.
 
 pub told_no_fork : (gone : Type 0) (file : List ℕ) (lack : NoFork) (told : Refusal) → gone → IsNoForkIn file lack → IsToldOf file (failure.NoFork lack) told

@@ -1,5 +1,5 @@
 -- What is kept of a file, by whether its container has a fault.
-use Rattle.std.proofs.Common.{◌≡◌, ◌≢◌, ◌≤◌, ◌<◌, ◌+◌, ℕ, Bool, true, false, List, [], ◌∷◌, length, map, drop, Option, None, Some, Result, Ok, Err, refl, sym, ap, ◌∙◌, subst, arith}
+use Rattle.std.proofs.Common.{◌≡◌, ◌≢◌, ◌≤◌, ◌<◌, ◌+◌, ◌-◌, ℕ, Bool, true, false, List, [], ◌∷◌, length, map, take, drop, Option, None, Some, Result, Ok, Err, refl, sym, ap, ◌∙◌, subst, arith}
 use Rattle.std.specs.Result.{result_err}
 use Rattle.std.proofs.lemmas.Bool.{le-ltb, lt-ltb, or_from, or_right}
 use Rattle.std.proofs.lemmas.List.{length-map}
@@ -15,7 +15,8 @@ use Rattle.mac_files.specs.OldFiles.{IsUnopened, Opens, Said, old_file, read_as}
 use Rattle.mac_salvage.specs.declared.place.Places.{Places}
 use Rattle.mac_salvage.specs.InSpite.{Forks, IsShut, container_fault, forks_at, forks_by_fault, forks_in_spite, forks_left}
 use Rattle.mac_salvage.specs.Places.{places_of, text_places}
-use Rattle.mac_salvage.specs.Texts.{bytes_left, is_shut, mended}
+use Rattle.mac_salvage.specs.Texts.{bytes_after, bytes_left, is_shut, mended}
+use Rattle.mac_salvage.proofs.Mending.{rest_of}
 
 -- The faults.
 
@@ -86,3 +87,14 @@ pub under_open : (text : List ℕ) (colon count : ℕ) → colon_of text ≡ Som
     → count ≤ most_of (length text) → is_shut text ≡ false
 under_open text colon count is counts under =
     or_from _ _ (rw is refl) (le-ltb (most_of (length text)) (length (bytes_left text)) (subst (λ (n : ℕ). n ≤ most_of (length text)) (counts ∙ sym (counted text colon is)) under))
+
+-- what is read of a text, where the colon is found and it isn't too long
+pub read_left : (text digits bytes : List ℕ) (colon count : ℕ) → Some colon ≡ colon_of text
+    → digits ≡ mended (take (length text - (colon + 1)) (drop (colon + 1) text)) → count ≡ length (decoded_from 0 digits).values
+    → count ≤ most_of (length text) → bytes ≡ values_of (decoded_from 0 digits) → (is_shut text ≡ false) × (bytes ≡ bytes_left text)
+read_left text digits bytes colon count is mends counts under reads =
+    let all = mends ∙ ap mended (rest_of text (colon + 1)) in
+    (
+      under_open text colon count (sym is) (counts ∙ ap (λ (d : List ℕ). length (decoded_from 0 d).values) all) under,
+      reads ∙ ap (λ (d : List ℕ). values_of (decoded_from 0 d)) all ∙ ap (λ (found : Option ℕ). bytes_after found text) is,
+    )

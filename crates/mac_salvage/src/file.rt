@@ -108,6 +108,7 @@ impl FileLeft<'_> {
 /// that its header or its list says. In a BinHex text a wrong character is read as a digit, and the others keep their
 /// places. An error comes only of such a text: where no line begins with its colon, it stands for more bytes than are
 /// read of it, or the host has no memory.
+#[tactic(auto, using(crate::proofs::Opening::parts_fault, crate::proofs::Opening::parts_forks))]
 pub fn open_in_spite<'a>(alloc: Global, file: &'a [u8]) -> Result<FileLeft<'a>, FileFault>
     ensures { OpensInSpite file.now result }
 {
@@ -127,6 +128,7 @@ pub fn open_in_spite<'a>(alloc: Global, file: &'a [u8]) -> Result<FileLeft<'a>, 
 }
 
 /// The forks of a BinHex text with a fault.
+#[tactic(auto, using(crate::proofs::Opening::text_fault, crate::proofs::Opening::text_forks, crate::proofs::Opening::shut_for))]
 fn text_in_spite<'a>(
     alloc: Global,
     fault: FileFault,

@@ -35,6 +35,7 @@ const NOWHERE: Places = Places {
 };
 
 /// The fork at a place, or None where none of its bytes are there.
+#[tactic(auto, using(crate::proofs::Reaching::reached, crate::proofs::Reaching::reached_count))]
 pub fn left_in(bytes: &[u8], part: Part) -> Option<ForkLeft<'_>>
     ensures { option_map left_by result ≡ left_in bytes.now part }
 {

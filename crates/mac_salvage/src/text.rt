@@ -47,6 +47,7 @@ fn mended_character(character: u8, rest: &[u8]) -> u8
 }
 
 /// A text with a digit in place of each wrong character.
+#[tactic(auto, using(crate::proofs::Mending::mended_more, crate::proofs::Mending::mended_at_end))]
 fn mended(alloc: Global, text: &[u8]) -> Result<Vec<u8>, AllocError>
     ensures { IfOk result (λ mended_text. mended_text.items ≡ mended text.now) }
 {
@@ -59,6 +60,7 @@ fn mended(alloc: Global, text: &[u8]) -> Result<Vec<u8>, AllocError>
 
 /// The bytes that a text stands for in spite of wrong characters, in a block of memory of just that size; None where no
 /// line begins with a colon, or it stands for more bytes than are read of it.
+#[tactic(auto, using(crate::proofs::Mending::rest_of, crate::proofs::Opening::none_shut, crate::proofs::Opening::over_shut, crate::proofs::Opening::under_open))]
 pub fn bytes_left(alloc: Global, text: &[u8]) -> Result<Option<Vec<u8>>, AllocError>
     ensures bytes { IfOk result (λ found. MatchOption found (is_shut text.now ≡ true) (λ bytes. (is_shut text.now ≡ false) × (bytes.items ≡ bytes_left text.now))) }
     ensures memory { IfOk result (λ found. IfSome found (λ bytes. vec_capacity bytes ≡ vec_len bytes)) }
