@@ -1,6 +1,8 @@
 -- Names in paths.
 use Rattle.std.proofs.Common.{◌≡◌, ℕ, ◌+◌, Bool, true, false, List, [], ◌∷◌, ◌++◌, refl, ap, ◌∙◌}
-use Rattle.std.specs.Prelude.{◌==◌, if◌then◌else◌}
+use Rattle.std.specs.Prelude.{◌==◌, ◌↔◌, IsTrue, bytes_eq, if◌then◌else◌}
+use Rattle.std.specs.Bool.{one_answer}
+use Rattle.std.proofs.lemmas.Slice.Eq.{bytes_eq-Decides}
 use Rattle.std.specs.List.{list_any}
 use Rattle.fork_edit.specs.PathNames.{AreBytesOf, IsByteOf, last_part}
 
@@ -35,3 +37,7 @@ bytes_more [] [] character byte are is = (is, tt)
 bytes_more [] (b ∷ bs) character byte are is = absurd are
 bytes_more (c ∷ cs) [] character byte are is = absurd are
 bytes_more (c ∷ cs) (b ∷ bs) character byte are is = (are.0, bytes_more cs bs character byte are.1 is)
+
+-- a test of whether bytes are the same
+pub same_as : (b : Bool) (xs ys : List ℕ) → (IsTrue b ↔ (xs ≡ ys)) → b ≡ bytes_eq xs ys
+same_as b xs ys h = one_answer b (bytes_eq xs ys) h (bytes_eq-Decides xs ys)

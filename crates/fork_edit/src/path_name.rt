@@ -9,6 +9,7 @@ use std::alloc::{AllocError, Global};
 
 /// The endings of files that are nothing but a resource fork.
 const LONG_ENDING: &[u8] = b".rsrc";
+
 const SHORT_ENDING: &[u8] = b".rsr";
 
 /// What comes after the last slash.
@@ -38,8 +39,7 @@ fn unmarked(name: &[u8]) -> &[u8]
 fn has_ending(name: &[u8], ending: &[u8]) -> bool
     ensures { result ≡ has_ending ending.now name.now }
 {
-    name.len() > ending.len()
-        && name[name.len() - ending.len()..].eq_ignore_ascii_case(ending)
+    name.len() > ending.len() && name[name.len() - ending.len()..].eq_ignore_ascii_case(ending)
 }
 
 /// The name without the ending of a raw fork.

@@ -5,7 +5,7 @@ ghost use Rattle.std.specs.Borrow.{Bor};
 ghost use Rattle.clap.specs.Matches.{first_value, found_of};
 ghost use Rattle.fork_words.specs.Asks.{IsFault};
 ghost use Rattle.fork_words.specs.Inputs.{GoesElsewhere, IsInput, ReadsOnce};
-ghost use Rattle.fork_words.specs.Places.{IsCollision, IsFlag, IsNoPlace, IsPlace};
+ghost use Rattle.fork_words.specs.Places.{IsCollision, IsFlag, IsNoPlace, IsPack, IsPlace, IsRez};
 
 use crate::INPUT;
 use crate::asked::{NotAsked, form_of, kind_named, kinds_named, name_named, word};
@@ -192,7 +192,9 @@ fn derez<'a>(alloc: Global, matches: &ArgMatches<'a>) -> Result<Work<'a>, NotAsk
 
 /// What `rez` asks for.
 fn rez<'a>(matches: &ArgMatches<'a>) -> Result<Work<'a>, Fault>
-    ensures { IfOk result ReadsOnce }
+    ensures once { IfOk result ReadsOnce }
+    ensures asked { IfOk result (IsRez (found_of matches.now)) }
+    ensures refused { IfErr result (IsNoPlace (found_of matches.now)) }
 {
     let text = word(matches, "file");
     let place = place_of(matches, text)?;
@@ -201,7 +203,9 @@ fn rez<'a>(matches: &ArgMatches<'a>) -> Result<Work<'a>, Fault>
 
 /// What `pack` asks for.
 fn pack<'a>(matches: &ArgMatches<'a>) -> Result<Work<'a>, Fault>
-    ensures { IfOk result ReadsOnce }
+    ensures once { IfOk result ReadsOnce }
+    ensures asked { IfOk result (IsPack (found_of matches.now)) }
+    ensures refused { IfErr result (IsNoPlace (found_of matches.now)) }
 {
     let folder = word(matches, "folder");
     let place = place_of(matches, folder)?;

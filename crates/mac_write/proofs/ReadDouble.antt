@@ -81,18 +81,17 @@ rest_there text rest offset e es is =
 told_there : (text rest : List ℕ) (id at offset : ℕ) (es : List (ℕ × List ℕ)) → drop offset text ≡ contents es ++ rest
     → told_bytes (option_and_then (λ (e : Entry). has_bytes e.part) (find (λ (e : Entry). e.id == id) (laid at offset es))) text ≡ bytes_with id es
 told_there text rest id at offset [] is = refl
-told_there text rest id at offset (e ∷ es) is = by_id (e.0 == id)
+told_there text rest id at offset (e ∷ es) is =
+    by_id (e.0 == id) (told_there text rest id (at + 12) (offset + length e.1) es (rest_there text rest offset e es is))
   where
     first : told_bytes (has_bytes (record { offset = offset; length = length e.1 })) text ≡ e.1
     first = told_part offset (length e.1) text e.1 refl (part_there offset (length e.1) text e.1 (contents es ++ rest) (is ∙ append_assoc e.1 (contents es) rest) refl)
 
-    others : told_bytes (option_and_then (λ (e : Entry). has_bytes e.part) (find (λ (e : Entry). e.id == id) (laid (at + 12) (offset + length e.1) es))) text ≡ bytes_with id es
-    others = told_there text rest id (at + 12) (offset + length e.1) es (rest_there text rest offset e es is)
-
-    by_id : (b : Bool) → told_bytes (option_and_then (λ (e : Entry). has_bytes e.part) (if b then Some (entry at e.0 offset (length e.1)) else find (λ (e : Entry). e.id == id) (laid (at + 12) (offset + length e.1) es))) text
+    by_id : (b : Bool) → told_bytes (option_and_then (λ (e : Entry). has_bytes e.part) (find (λ (e : Entry). e.id == id) (laid (at + 12) (offset + length e.1) es))) text ≡ bytes_with id es
+        → told_bytes (option_and_then (λ (e : Entry). has_bytes e.part) (if b then Some (entry at e.0 offset (length e.1)) else find (λ (e : Entry). e.id == id) (laid (at + 12) (offset + length e.1) es))) text
         ≡ (if b then e.1 else bytes_with id es)
-    by_id true = first
-    by_id false = others
+    by_id true others = first
+    by_id false others = others
 
 -- what a part says, by its bytes alone
 abbrev SaysBy : {X : Type 0} → (List ℕ → Part → Option X) → (List ℕ → Option X) → Type 0
@@ -107,25 +106,39 @@ said_there : {X : Type 0} (of_part : List ℕ → Part → Option X) (of_bytes :
     → (text rest : List ℕ) (id at offset : ℕ) (es : List (ℕ × List ℕ)) → drop offset text ≡ contents es ++ rest
     → option_and_then (of_part text) (option_and_then (λ (e : Entry). has_bytes e.part) (find (λ (e : Entry). e.id == id) (laid at offset es))) ≡ of_bytes (bytes_with id es)
 said_there of_part of_bytes says none text rest id at offset [] is = sym none
-said_there of_part of_bytes says none text rest id at offset (e ∷ es) is = by_id (e.0 == id)
+said_there of_part of_bytes says none text rest id at offset (e ∷ es) is =
+    by_id (e.0 == id) (said_there of_part of_bytes says none text rest id (at + 12) (offset + length e.1) es (rest_there text rest offset e es is))
   where
     by_none : (b : Bool) → (length e.1 == 0) ≡ b
         → option_and_then (of_part text) (if b then None else Some (record { offset = offset; length = length e.1 })) ≡ of_bytes e.1
     by_none true empty = none_of of_bytes e.1 none (eqb-true (length e.1) 0 empty)
     by_none false some = says text (contents es ++ rest) e.1 offset (is ∙ append_assoc e.1 (contents es) rest)
 
-    by_id : (b : Bool) → option_and_then (of_part text) (option_and_then (λ (e : Entry). has_bytes e.part) (if b then Some (entry at e.0 offset (length e.1)) else find (λ (e : Entry). e.id == id) (laid (at + 12) (offset + length e.1) es)))
+    by_id : (b : Bool) → option_and_then (of_part text) (option_and_then (λ (e : Entry). has_bytes e.part) (find (λ (e : Entry). e.id == id) (laid (at + 12) (offset + length e.1) es))) ≡ of_bytes (bytes_with id es)
+        → option_and_then (of_part text) (option_and_then (λ (e : Entry). has_bytes e.part) (if b then Some (entry at e.0 offset (length e.1)) else find (λ (e : Entry). e.id == id) (laid (at + 12) (offset + length e.1) es)))
         ≡ of_bytes (if b then e.1 else bytes_with id es)
-    by_id true = by_none (length e.1 == 0) refl
-    by_id false = said_there of_part of_bytes says none text rest id (at + 12) (offset + length e.1) es (rest_there text rest offset e es is)
+    by_id true others = by_none (length e.1 == 0) refl
+    by_id false others = others
 
 -- What the Finder knows, and the dates.
 
+abbrev finder_at : ℕ → List ℕ → FinderInfo
+finder_at at text = record { kind = take 4 (drop at text); creator = take 4 (drop (at + 4) text); flags = big_from (at + 8) 2 text }
+
+abbrev finder_of : List ℕ → FinderInfo
+finder_of bytes = record { kind = take 4 bytes; creator = take 4 (drop 4 bytes); flags = big_from 8 2 bytes }
+
 abbrev finder_by : List ℕ → Option FinderInfo
-finder_by bytes = if nat_le 10 (length bytes) then Some (record { kind = take 4 bytes; creator = take 4 (drop 4 bytes); flags = big_from 8 2 bytes }) else None
+finder_by bytes = if nat_le 10 (length bytes) then Some (finder_of bytes) else None
+
+abbrev dates_at : ℕ → List ℕ → Dates
+dates_at at text = record { created = big_from at 4 text; modified = big_from (at + 4) 4 text }
+
+abbrev dates_of : List ℕ → Dates
+dates_of bytes = record { created = big_from 0 4 bytes; modified = big_from 4 4 bytes }
 
 abbrev dates_by : List ℕ → Option Dates
-dates_by bytes = if nat_le 8 (length bytes) then Some (record { created = big_from 0 4 bytes; modified = big_from 4 4 bytes }) else None
+dates_by bytes = if nat_le 8 (length bytes) then Some (dates_of bytes) else None
 
 -- a number, and some bytes, of a part
 number_of : (text rest bytes : List ℕ) (offset i n : ℕ) → drop offset text ≡ bytes ++ rest → i + n ≤ length bytes → big_from (offset + i) n text ≡ big_from i n bytes
@@ -140,8 +153,7 @@ says_finder : SaysBy finder_in finder_by
 says_finder text rest bytes offset is = by_long (nat_le 10 (length bytes)) refl
   where
     by_long : (b : Bool) → nat_le 10 (length bytes) ≡ b
-        → (if b then Some (record { kind = take 4 (drop offset text); creator = take 4 (drop (offset + 4) text); flags = big_from (offset + 8) 2 text }) else None)
-        ≡ (if b then Some (record { kind = take 4 bytes; creator = take 4 (drop 4 bytes); flags = big_from 8 2 bytes }) else None)
+        → (if b then Some (finder_at offset text) else None) ≡ (if b then Some (finder_of bytes) else None)
     by_long false short = refl
     by_long true long =
         let size = leb-true 10 (length bytes) long in
@@ -154,8 +166,7 @@ says_dates : SaysBy dates_in dates_by
 says_dates text rest bytes offset is = by_long (nat_le 8 (length bytes)) refl
   where
     by_long : (b : Bool) → nat_le 8 (length bytes) ≡ b
-        → (if b then Some (record { created = big_from offset 4 text; modified = big_from (offset + 4) 4 text }) else None)
-        ≡ (if b then Some (record { created = big_from 0 4 bytes; modified = big_from 4 4 bytes }) else None)
+        → (if b then Some (dates_at offset text) else None) ≡ (if b then Some (dates_of bytes) else None)
     by_long false short = refl
     by_long true long =
         let size = leb-true 8 (length bytes) long in
@@ -186,11 +197,11 @@ three_of : (name comment dates : List ℕ) → Three name comment dates
 three_of [] [] [] = record { ids = tt; few = omega arith; one = refl; three = refl; four = refl; eight = refl }
 three_of [] [] (d ∷ ds) = record { ids = (omega arith, tt); few = omega arith; one = refl; three = refl; four = refl; eight = refl }
 three_of [] (c ∷ cs) [] = record { ids = (omega arith, tt); few = omega arith; one = refl; three = refl; four = refl; eight = refl }
-three_of [] (c ∷ cs) (d ∷ ds) = record { ids = (omega arith, omega arith, tt); few = omega arith; one = refl; three = refl; four = refl; eight = refl }
+three_of [] (c ∷ cs) (d ∷ ds) = record { ids = (omega arith, (omega arith, tt)); few = omega arith; one = refl; three = refl; four = refl; eight = refl }
 three_of (n ∷ ns) [] [] = record { ids = (omega arith, tt); few = omega arith; one = refl; three = refl; four = refl; eight = refl }
-three_of (n ∷ ns) [] (d ∷ ds) = record { ids = (omega arith, omega arith, tt); few = omega arith; one = refl; three = refl; four = refl; eight = refl }
-three_of (n ∷ ns) (c ∷ cs) [] = record { ids = (omega arith, omega arith, tt); few = omega arith; one = refl; three = refl; four = refl; eight = refl }
-three_of (n ∷ ns) (c ∷ cs) (d ∷ ds) = record { ids = (omega arith, omega arith, omega arith, tt); few = omega arith; one = refl; three = refl; four = refl; eight = refl }
+three_of (n ∷ ns) [] (d ∷ ds) = record { ids = (omega arith, (omega arith, tt)); few = omega arith; one = refl; three = refl; four = refl; eight = refl }
+three_of (n ∷ ns) (c ∷ cs) [] = record { ids = (omega arith, (omega arith, tt)); few = omega arith; one = refl; three = refl; four = refl; eight = refl }
+three_of (n ∷ ns) (c ∷ cs) (d ∷ ds) = record { ids = (omega arith, (omega arith, (omega arith, tt))); few = omega arith; one = refl; three = refl; four = refl; eight = refl }
 
 -- The dates that are written are read.
 
@@ -238,7 +249,7 @@ double_again file is fits =
     let text = double_text file in let es = double_entries file in let n = length es in
     let start = 26 + 12 * n in
     let three = three_of file.name file.comment (known_dates file) in
-    let ids : HaveIds es = (omega arith, omega arith, three.ids) in
+    let ids : HaveIds es = (omega arith, (omega arith, three.ids)) in
     let few : n ≤ 5 = let f = three.few in omega arith in
     let list_size = length-places start es in
     let body_size = length-append (places start es) (contents es) in

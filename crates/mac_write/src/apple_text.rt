@@ -238,7 +238,8 @@ fn push_double_contents(new: &mut Vec<u8>, file: &MacFile) -> Result<(), AllocEr
     new.extend_from_slice(file.resource_fork)?;
     new.extend_from_slice(file.name)?;
     new.extend_from_slice(file.comment)?;
-    push_known_dates(new, file)
+    push_known_dates(new, file)?;
+    Ok(())
 }
 
 /// The file as AppleDouble.

@@ -7,6 +7,7 @@ use crate::change::{say, write_output, written_file};
 use crate::host::Host;
 use crate::input::{NotRead, read_all};
 use crate::message::{DONE, Problem};
+use crate::save::OUTPUT;
 use crate::unlisted::with_unlisted;
 use crate::work::{Failed, copy_rows, file_at_fault, of_file};
 use crate::{TableUse, read, read_other, read_whole, unread, use_table};
@@ -152,7 +153,7 @@ fn is_container(bytes: &[u8]) -> bool {
 /// resources which the new one lacks, or that can't be looked at.
 fn check_free(host: &Host<'_>, name: &str, like: &[u8], rows: &[Row<'_>]) -> Result<(), Problem> {
     match fs::metadata(host.rt, name) {
-        Ok(found) if found.is_file() => {}
+        Ok(found) if found.is_file() && name != OUTPUT => {}
         _ => return Ok(()),
     }
     let bytes = match read_whole(host, name) {
