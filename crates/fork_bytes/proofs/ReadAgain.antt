@@ -15,6 +15,7 @@ use Rattle.fork_bytes.specs.Written.{types_of, counted_before, count_bytes, entr
 use Rattle.fork_bytes.specs.Laws.{IsRow, IsTable, IsReadAgain, IsReadAgainWithin, StandsForOne}
 use Rattle.fork_bytes.proofs.Lengths.{AreFour, length-entries, length-references, length-written}
 use Rattle.fork_bytes.proofs.Room.{few_by}
+use Rattle.fork_bytes.proofs.Sized.{few_places}
 use Rattle.fork_bytes.proofs.Front.{IsSmall, header_is, extra_is, data_is, map_is, length-map, attributes_are, types_stand, names_stand, types_are}
 use Rattle.fork_bytes.proofs.ReadEntries.{entries_for, total-types_of, entries_are, references_for, references_are}
 use Rattle.fork_bytes.proofs.ReadData.{rows_for, rows_with_data, data_within, data_count}
@@ -134,7 +135,7 @@ all_stand limits table w =
       start = names_stand table w.fits.lists;
       each = w.is.rows;
       low = w.fits.names;
-      places = w.fits.places;
+      places = w.small.places;
     }
 
 -- nothing is around the data
@@ -253,4 +254,4 @@ read_again_within limits table most_fork most_bytes is fits small =
 pub read_again : IsReadAgain
 read_again table is fits small =
     let whole = length-written table (four_bytes table.rows is.rows) in
-    read_again_within macheap_limits table (omega arith) (omega arith) is fits (record { fork = small; bytes = omega arith })
+    read_again_within macheap_limits table (omega arith) (omega arith) is fits (record { fork = small; bytes = omega arith; places = few_places 0 table.rows (omega arith) })

@@ -1,5 +1,5 @@
 -- Whether rows fit a fork, by how many bytes each has.
-use Rattle.std.proofs.Common.{◌≡◌, ℕ, ◌+◌, ◌≤◌, List, [], ◌∷◌, length, inl, inr, Option, Some, None, IfNone, ⊎_elim, refl, arith}
+use Rattle.std.proofs.Common.{◌≡◌, ℕ, ◌+◌, ◌≤◌, ◌⊎◌, List, [], ◌∷◌, length, inl, inr, Option, Some, None, IfNone, ⊎_elim, refl, arith}
 use Rattle.std.proofs.lemmas.Bool.{cases_lt}
 use Rattle.fork_bytes.specs.declared.table.Table.{Table}
 use Rattle.fork_bytes.specs.Rows.{Row}
@@ -34,13 +34,21 @@ pub few_places : (at : ℕ) (rows : List Row) → at + length (data_text rows) �
 few_places at [] few = tt
 few_places at (row ∷ rows) few = let whole = length-data row rows in (omega arith, few_places (at + (4 + length row.datum)) rows (omega arith))
 
+-- they are, or they aren't
+places_or : (at : ℕ) (rows : List Row) → PlacesFit length at rows ⊎ ¬ PlacesFit length at rows
+places_or at [] = inl tt
+places_or at (row ∷ rows) =
+    let C : Type 0 = PlacesFit length at (row ∷ rows) ⊎ ¬ PlacesFit length at (row ∷ rows) in
+    ⊎_elim {C = C} (λ low. ⊎_elim {C = C} (λ fit. inl (low, fit)) (λ no. inr (λ fit. no fit.1)) (places_or (at + (4 + length row.datum)) rows))
+    (λ high. inr (λ fit. let low = fit.0 in absurd (omega (arith, low, high)))) (cases_lt at 16777216)
+
 pub fits_of : (limits : Limits) (table : Table) → FitSizesWithin limits own table.rows → FitsWithin limits table
-fits_of limits table fit = record { few_rows = fit.few_rows; lists = fit.lists; names = fit.names; places = fit.places }
+fits_of limits table fit = record { few_rows = fit.few_rows; lists = fit.lists; names = fit.names }
 
 pub small_of : (limits : Limits) (table : Table) → length table.extra ≡ 240 → AreFour (types_of table.rows) → FitSizesWithin limits own table.rows → IsSmallWithin limits table
 small_of limits table extra four fit =
     let whole = length-written table four in let parts = data_is table.rows in let small = fit.whole in let few = fit.few_bytes in
-    record { fork = omega arith; bytes = omega arith }
+    record { fork = omega arith; bytes = omega arith; places = fit.places }
 
 pub few_of : (limits : Limits) (rows : List Row) → FitSizesWithin limits own rows → length (data_text rows) ≤ limits.bytes
 few_of limits rows fit = let parts = data_is rows in let few = fit.few_bytes in omega arith
@@ -50,7 +58,9 @@ too_big_by limits table extra four none =
     let whole = length-written table four in let parts = data_is table.rows in
     ⊎_elim {C = IsTooBigWithin limits table} (λ large. inl large)
     (λ small. ⊎_elim {C = IsTooBigWithin limits table} (λ many. inr (inl many))
-    (λ few. inr (inr (λ fits. none (record { few_rows = fits.few_rows; lists = fits.lists; names = fits.names; places = fits.places; few_bytes = omega arith; whole = omega arith }))))
+    (λ few. ⊎_elim {C = IsTooBigWithin limits table}
+    (λ places. inr (inr (inr (λ fits. none (record { few_rows = fits.few_rows; lists = fits.lists; names = fits.names; places = places; few_bytes = omega arith; whole = omega arith })))))
+    (λ far. inr (inr (inl far))) (places_or 0 table.rows))
     (cases_lt limits.bytes (length (data_text table.rows))))
     (cases_lt limits.fork (length (written table)))
 
@@ -58,4 +68,4 @@ too_big_by limits table extra four none =
 pub not_too_big : (limits : Limits) (table : Table) → IsSmallWithin limits table → FitsWithin limits table → ¬ IsTooBigWithin limits table
 not_too_big limits table small fits =
     let fork = small.fork in let bytes = small.bytes in
-    ⊎_elim (λ large. absurd (omega arith)) (λ other. ⊎_elim (λ many. absurd (omega arith)) (λ no. no fits) other)
+    ⊎_elim (λ large. absurd (omega arith)) (λ other. ⊎_elim (λ many. absurd (omega arith)) (λ rest. ⊎_elim (λ far. far small.places) (λ no. no fits) rest) other)

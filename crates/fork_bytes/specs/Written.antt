@@ -118,22 +118,24 @@ abbrev pub PlacesFit : {X : Type 0} → (X → ℕ) → ℕ → List (Resource X
 PlacesFit long at [] = Unit {0}
 PlacesFit long at (row ∷ rows) = (at < 16777216) × PlacesFit long (at + (4 + long row.datum)) rows
 
--- The table fits a fork: not too many rows, offsets in the map that two bytes hold, and places in the data that three do.
--- The offsets of the references are less than the name list's.
+-- The table fits a fork: not too many rows, and offsets that two bytes hold. Those of the references are less than the
+-- name list's.
 pub record FitsWithin (limits : Limits) (table : Table) : Type 0 where
   pub few_rows : length table.rows ≤ limits.rows
   pub lists : names_offset table.rows ≤ 65535
   pub names : NamesFit 0 table.rows
-  pub places : PlacesFit length 0 table.rows
 
--- The fork of the table has not too many bytes, and neither have its resources, each with its four bytes of length.
+-- The fork of the table has not too many bytes, and neither have its resources, each with its four bytes of length, of
+-- which three bytes hold the places.
 pub record IsSmallWithin (limits : Limits) (table : Table) : Type 0 where
   pub fork : length (written table) ≤ limits.fork
   pub bytes : length (data_text table.rows) ≤ limits.bytes
+  pub places : PlacesFit length 0 table.rows
 
 -- the table is too big to be written
 abbrev pub IsTooBigWithin : Limits → Table → Type 0
-IsTooBigWithin limits table = (limits.fork < length (written table)) ⊎ (limits.bytes < length (data_text table.rows)) ⊎ ¬ FitsWithin limits table
+IsTooBigWithin limits table = (limits.fork < length (written table)) ⊎ (limits.bytes < length (data_text table.rows)) ⊎ (¬ PlacesFit length 0 table.rows)
+    ⊎ ¬ FitsWithin limits table
 
 -- the same, as macheap writes forks
 abbrev pub Fits : Table → Type 0
