@@ -10,16 +10,6 @@ use Rattle.fork_edit.specs.PathNames.{AreBytesOf, IsByteOf, last_part}
 abbrev pub last_from : List ℕ → List ℕ → List ℕ
 last_from rest last = if list_any (λ other. other == 47) rest then last_part rest else last
 
-pub last_step : (byte : ℕ) (rest last : List ℕ) → last_from (byte ∷ rest) last ≡ last_from rest (if byte == 47 then rest else last)
-last_step byte rest last = by_both (byte == 47) (list_any (λ other. other == 47) rest) refl refl
-  where
-    by_both : (is any : Bool) → (byte == 47) ≡ is → list_any (λ other. other == 47) rest ≡ any
-        → last_from (byte ∷ rest) last ≡ last_from rest (if byte == 47 then rest else last)
-    by_both true true p q = rw (p, q) refl
-    by_both true false p q = rw (p, q) refl
-    by_both false true p q = rw (p, q) refl
-    by_both false false p q = rw (p, q) refl
-
 pub last_whole : (path : List ℕ) → last_from path path ≡ last_part path
 last_whole [] = refl
 last_whole (byte ∷ rest) = by_both (byte == 47) (list_any (λ other. other == 47) rest) refl refl

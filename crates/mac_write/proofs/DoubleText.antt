@@ -1,29 +1,9 @@
 -- The parts of AppleDouble that are written one after the other.
-use Rattle.std.proofs.Common.{◌≡◌, ℕ, ◌+◌, ◌*◌, Bool, true, false, List, [], ◌∷◌, ◌++◌, length, refl, sym, ap, ◌∙◌, append_assoc, length-append, arith}
-use Rattle.std.specs.Prelude.{◌==◌}
-use Rattle.std.proofs.lemmas.Bool.{eqb-false, eqb-true}
+use Rattle.std.proofs.Common.{◌≡◌, ℕ, ◌+◌, List, [], ◌∷◌, ◌++◌, length, refl, sym, ap, ◌∙◌, append_assoc, arith}
 use Rattle.std.proofs.lemmas.List.{append-nil}
 use Rattle.mac_write.specs.Parts.{IsFile, Parts}
-use Rattle.mac_write.specs.Targets.{contents, double_entries, double_text, finder_text, head, known_dates, place, places, said}
-use Rattle.mac_write.proofs.ReadDouble.{length-contents, length-finder, length-places}
-
--- An entry of so many bytes.
-
-pub said_none : (at id count : ℕ) (bytes : List ℕ) → length bytes ≡ count → (count == 0) ≡ true → places at (said id bytes) ≡ []
-said_none at id count [] is none = refl
-said_none at id count (byte ∷ bytes) is none = let zero_is = eqb-true count 0 none in absurd (omega arith)
-
-pub said_some : (at id count : ℕ) (bytes : List ℕ) → length bytes ≡ count → (count == 0) ≡ false → places at (said id bytes) ≡ place id at count
-said_some at id count [] is some = absurd (eqb-false count 0 some (sym is))
-said_some at id count (byte ∷ bytes) is some = append-nil (place id at (length (byte ∷ bytes))) ∙ ap (place id at) is
-
-pub count_none : (id count : ℕ) (bytes : List ℕ) → length bytes ≡ count → (count == 0) ≡ true → 0 ≡ length (said id bytes)
-count_none id count [] is none = refl
-count_none id count (byte ∷ bytes) is none = let zero_is = eqb-true count 0 none in absurd (omega arith)
-
-pub count_some : (id count : ℕ) (bytes : List ℕ) → length bytes ≡ count → (count == 0) ≡ false → 1 ≡ length (said id bytes)
-count_some id count [] is some = absurd (eqb-false count 0 some (sym is))
-count_some id count (byte ∷ bytes) is some = refl
+use Rattle.mac_write.specs.Targets.{contents, double_entries, finder_text, known_dates, place, places, said}
+use Rattle.mac_write.proofs.ReadDouble.{length-contents, length-finder}
 
 -- Several entries.
 
@@ -70,29 +50,3 @@ contents_double file =
     ∙ ap (λ (xs : List ℕ). file.name ++ xs) (contents-append (said 4 file.comment) (said 8 (known_dates file))
     ∙ ap (λ (xs : List ℕ). xs ++ contents (said 8 (known_dates file))) (contents_said 4 file.comment)
     ∙ ap (λ (xs : List ℕ). file.comment ++ xs) (contents_said 8 (known_dates file))))
-
-pub length-entries : (file : Parts) → length (double_entries file)
-    ≡ 2 + length (said 3 file.name) + length (said 4 file.comment) + length (said 8 (known_dates file))
-length-entries file =
-    let a = length-append (said 3 file.name) (said 4 file.comment ++ said 8 (known_dates file)) in
-    let b = length-append (said 4 file.comment) (said 8 (known_dates file)) in omega arith
-
-pub length-body : (file : Parts) → IsFile file → length (contents (double_entries file))
-    ≡ 32 + length file.resource_fork + length file.name + length file.comment + length (known_dates file)
-length-body file is =
-    let f = length-finder file is in
-    let a = length-append (finder_text file) (file.resource_fork ++ (file.name ++ (file.comment ++ known_dates file))) in
-    let b = length-append file.resource_fork (file.name ++ (file.comment ++ known_dates file)) in
-    let c = length-append file.name (file.comment ++ known_dates file) in
-    let d = length-append file.comment (known_dates file) in
-    ap length (contents_double file) ∙ omega arith
-
-pub length-double : (file : Parts) → IsFile file → length (double_text file)
-    ≡ 26 + 12 * length (double_entries file) + 32 + length file.resource_fork + (length file.name + length file.comment + length (known_dates file))
-length-double file is =
-    let n = length (double_entries file) in
-    let list = places (26 + 12 * n) (double_entries file) in
-    let all : length (double_text file) ≡ 26 + length (list ++ contents (double_entries file)) = length-append (head 7 n) (list ++ contents (double_entries file)) in
-    let both = length-append list (contents (double_entries file)) in
-    let size = length-places (26 + 12 * n) (double_entries file) in
-    let body = length-body file is in omega arith

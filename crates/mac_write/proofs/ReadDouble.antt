@@ -20,7 +20,7 @@ use Rattle.mac_write.proofs.Held.{neither, number_is}
 use Rattle.mac_write.proofs.Places.{next, number_there, part_there}
 use Rattle.mac_write.proofs.ReadApple.{FitsApple, HasEntries, date_again, date_small, entry, entry_there, fields_same, none_outside, whole}
 use Rattle.mac_write.proofs.ReadBinary.{told_part}
-use Rattle.mac_write.proofs.Segments.{from_drop, left_same, number_at, number_same}
+use Rattle.mac_write.proofs.Segments.{from_drop, left_same, number_same}
 
 -- The entries of a list, each an id and bytes.
 
@@ -39,7 +39,7 @@ abbrev bytes_with : ℕ → List (ℕ × List ℕ) → List ℕ
 bytes_with id [] = []
 bytes_with id (e ∷ es) = if e.0 == id then e.1 else bytes_with id es
 
-pub length-places : (at : ℕ) (es : List (ℕ × List ℕ)) → length (places at es) ≡ 12 * length es
+length-places : (at : ℕ) (es : List (ℕ × List ℕ)) → length (places at es) ≡ 12 * length es
 length-places at [] = refl
 length-places at (e ∷ es) =
     let rest = length-places (at + length e.1) es in

@@ -7,7 +7,7 @@ use Rattle.fork_edit.proofs.PathNames.{bytes_more}
 use Rattle.fork_edit.proofs.path_name.roman_bytes.Goals as goal
 
 pub loop-character-init : goal.loop-character-init
-loop-character-init c = (search rules, ([], (cc, tt)))
+loop-character-init c = (search rules, ([], cc, search rules))
 
 pub loop-character-preserved : goal.loop-character-preserved
 loop-character-preserved c =
@@ -17,8 +17,8 @@ loop-character-preserved c =
     let step = chars_past_char _ _ character held.0 parts in (
       IsUtf8-past_char _ _ character held.0 parts,
       (so_far.0 ++ character ∷ [],
-          (so_far.1 ∙ ap (λ (cs : List ℕ). so_far.0 ++ cs) step ∙ sym (append_assoc so_far.0 (character ∷ []) _),
-              subst (AreBytesOf (so_far.0 ++ character ∷ [])) (sym c.in_ok-push.ensures.items) (bytes_more so_far.0 _ character c.roman_byte.result so_far.2 c.roman_byte.ensures))),
+          so_far.1 ∙ ap (λ (cs : List ℕ). so_far.0 ++ cs) step ∙ sym (append_assoc so_far.0 (character ∷ []) _),
+          subst (AreBytesOf (so_far.0 ++ character ∷ [])) (sym c.in_ok-push.ensures.items) (bytes_more so_far.0 _ character c.roman_byte.result so_far.2 c.roman_byte.ensures)),
     )
 
 pub returns : goal.returns
