@@ -29,7 +29,7 @@ use Rattle.fork_report.specs.declared.refusal.Refusal.TheVariants as refusal
 use Rattle.fork_report.specs.Damage.{IsDamageOf, is_of_fork}
 use Rattle.fork_report.specs.Refused.{IsTakenForFork, IsToldOf, IsToldOfFork, other_than, other_than_fork}
 use Rattle.fork_report.specs.declared.salvaged.ContainerDamage.{ContainerDamage}
-use Rattle.fork_report.specs.Salvaged.{HasNothing, IsDataNotSalvaged, IsGone, IsNotListed, IsNotSalvaged, IsRefusedAsOther, IsRefusedWhere, IsUnreadable, ListsNothing, LooksLikeFork, nothing_left}
+use Rattle.fork_report.specs.Salvaged.{HasNothing, IsDataNotSalvaged, IsGone, IsNotKept, IsNotListed, IsNotSalvaged, IsRefusedAsOther, IsRefusedWhere, IsUnreadable, ListsNothing, LooksLikeFork, nothing_left}
 
 -- Files that are known as none with a fork.
 
@@ -283,6 +283,16 @@ absent_as file (Err why) whole none = absurd (cc whole)
 -- a file without a fault and without a fork
 pub absent_by : (file : List ℕ) → container_fault file ≡ None → (forks_in_spite file).resource_fork ≡ None → fork_said (old_file file) ≡ Ok None
 absent_by file whole none = absent_as file (old_file file) whole none
+
+-- of a file of which nothing is kept
+pub kept_not_listed : (letters : Letters) (file : List ℕ) (told : Refusal) → IsNotKept file told → IsNotListed letters file told
+kept_not_listed letters file told is = not_listed letters file told (refused_where _ _ file told (λ shut. inr shut) is)
+
+pub kept_not_salvaged : (file : List ℕ) (told : Refusal) → IsNotKept file told → IsNotSalvaged file told
+kept_not_salvaged file told is = not_salvaged file told (refused_where _ _ file told (λ shut. inr shut) is)
+
+pub kept_no_data : (file : List ℕ) (told : Refusal) → IsNotKept file told → IsDataNotSalvaged file told
+kept_no_data file told is = data_not_salvaged file told (refused_where _ _ file told (λ shut. inr shut) is)
 
 -- Nothing is read of a fork.
 
