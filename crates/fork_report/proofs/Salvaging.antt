@@ -29,7 +29,7 @@ use Rattle.fork_report.specs.declared.refusal.Refusal.TheVariants as refusal
 use Rattle.fork_report.specs.Damage.{IsDamageOf}
 use Rattle.fork_report.specs.Refused.{IsOther, IsRefused, IsRefusedAsOther, IsTakenForFork, IsToldOf, IsToldOfFork, LooksLikeFork}
 use Rattle.fork_report.specs.declared.salvaged.ContainerDamage.{ContainerDamage}
-use Rattle.fork_report.specs.Salvaged.{HasNothing, IsDataNotSalvaged, IsGone, IsNotListed, IsNotSalvaged, IsRefusedWhere, IsUnreadable, ListsNothing, nothing_left}
+use Rattle.fork_report.specs.Salvaged.{HasNothing, IsDataNotSalvaged, IsGone, IsNotKept, IsNotListed, IsNotSalvaged, IsRefusedWhere, IsUnreadable, ListsNothing, nothing_left}
 
 -- Files that are known as none with a fork.
 
@@ -151,27 +151,9 @@ refused_as file refusal.TooMuch is = absurd is
 pub taken_other : (file fork : List ℕ) (damage : Damage) → IsDamageOf file fork damage → IsTakenForFork damage.kind damage → LooksLikeFork file
 taken_other file fork damage is_damage taken = (fork, damage, is_damage, subst (λ (k : FileKind). IsTakenForFork k damage) is_damage.kind taken)
 
--- what is said of a file that isn't taken for one with a fork
-unlike_told : (file fork : List ℕ) (f : ForkFault) (damage : Damage) (told : Refusal) (looks : Bool) → kind_of file ≡ Unknown → IsDamageOf file fork damage
-    → is_of_fork damage ≡ looks → (if looks then None else Some refusal.Unknown) ≡ Some told → IsToldOfFork file f told
-unlike_told file fork f damage told true kind is_damage looks is = absurd (cc is)
-unlike_told file fork f damage told false kind is_damage looks is =
-    subst (λ (r : Refusal). IsToldOfFork file f r) (cc is) (kind, (fork, damage, is_damage, looks))
-
-told_of_other : (file fork : List ℕ) (f : ForkFault) (damage : Damage) (told : Refusal) (k : FileKind) → kind_of file ≡ k → IsDamageOf file fork damage
-    → other_than k (is_of_fork damage) ≡ Some told → IsToldOfFork file f told
-told_of_other file fork f damage told (In container) kind is_damage is = absurd (cc is)
-told_of_other file fork f damage told BinHex kind is_damage is = absurd (cc is)
-told_of_other file fork f damage told (Archive archive) kind is_damage is = subst (λ (r : Refusal). IsToldOfFork file f r) (cc is) kind
-told_of_other file fork f damage told Unknown kind is_damage is = unlike_told file fork f damage told (is_of_fork damage) kind is_damage refl is
-
-pub told_other : (file : List ℕ) (f : ForkFault) (damage : Damage) (told : Refusal) → (fork : List ℕ) × IsDamageOf file fork damage → other_than_fork damage ≡ Some told
-    → IsToldOfFork file f told
-told_other file f damage told (fork, is_damage) is = told_of_other file fork f damage told damage.kind (sym is_damage.kind) is_damage is
-
--- and of one that is
-pub told_taken : (file : List ℕ) (damage : Damage) → (fork : List ℕ) × IsDamageOf file fork damage → other_than_fork damage ≡ None → IsTakenForFork (kind_of file) damage
-told_taken file damage (fork, is_damage) none = subst (λ (k : FileKind). IsTakenForFork k damage) is_damage.kind (taken_of damage.kind damage none)
+-- and what is taken for one is damaged
+pub told_taken : (file : List ℕ) (damage : Damage) → (fork : List ℕ) × IsDamageOf file fork damage → IsTakenForFork damage.kind damage → IsTakenForFork (kind_of file) damage
+told_taken file damage (fork, is_damage) taken = subst (λ (k : FileKind). IsTakenForFork k damage) is_damage.kind taken
 
 -- Why a file is refused.
 
@@ -329,6 +311,16 @@ absent_as file (Err why) whole none = absurd (cc whole)
 -- a file without a fault and without a fork
 pub absent_by : (file : List ℕ) → container_fault file ≡ None → (forks_in_spite file).resource_fork ≡ None → fork_said (old_file file) ≡ Ok None
 absent_by file whole none = absent_as file (old_file file) whole none
+
+-- of a file of which nothing is kept
+pub kept_not_listed : (letters : Letters) (file : List ℕ) (told : Refusal) → IsNotKept file told → IsNotListed letters file told
+kept_not_listed letters file told is = not_listed letters file told (refused_where _ _ file told (λ shut. inr shut) is)
+
+pub kept_not_salvaged : (file : List ℕ) (told : Refusal) → IsNotKept file told → IsNotSalvaged file told
+kept_not_salvaged file told is = not_salvaged file told (refused_where _ _ file told (λ shut. inr shut) is)
+
+pub kept_no_data : (file : List ℕ) (told : Refusal) → IsNotKept file told → IsDataNotSalvaged file told
+kept_no_data file told is = data_not_salvaged file told (refused_where _ _ file told (λ shut. inr shut) is)
 
 -- Nothing is read of a fork.
 

@@ -121,7 +121,7 @@ impl Refusal {
     }
 
     /// What is reported of a fork that is refused: its first fault, with its place, if this file has a fork at all.
-    #[tactic(auto, using(crate::proofs::Refusing::told_damaged, crate::proofs::Refusing::told_unknown))]
+    #[tactic(auto, using(crate::proofs::Refusing::told_damaged, crate::proofs::Salvaging::told_other, crate::proofs::Salvaging::told_taken))]
     fn of_damage(alloc: Global, refusal: ForkFault, file: &[u8]) -> Refusal
         ensures { IsToldOfFork file.now refusal result }
     {
@@ -136,6 +136,7 @@ impl Refusal {
 
     /// Why this file, whose bytes have this damage as a fork, isn't taken for one with a fork in it: it is an archive, or
     /// nothing in it looks like a fork. None where it is taken for one.
+    #[tactic(auto, using(crate::proofs::Refusing::other_unknown))]
     fn of_other(alloc: Global, damage: &Damage, file: &[u8]) -> Option<Refusal>
         ensures other { IfSome result (IsOther file.now damage.now) }
         ensures taken { IfNone result (IsTakenForFork damage.now.kind damage.now) }
@@ -174,6 +175,7 @@ impl Refusal {
 }
 
 /// Why these bytes, which are known as this, are taken for no file with a fork in it, if they aren't.
+#[tactic(auto, using(crate::proofs::Salvaging::refused_other, crate::proofs::Salvaging::taken_other, crate::proofs::Salvaging::alone_in, crate::proofs::Salvaging::no_text))]
 pub(crate) fn other_than_fork(alloc: Global, kind: FileKind, bytes: &[u8]) -> Option<Refusal>
     requires { kind ≡ kind_of bytes.now }
     ensures other { IfSome result (IsRefusedAsOther bytes.now) }

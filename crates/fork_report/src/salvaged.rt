@@ -100,6 +100,7 @@ fn damage_by(file: &FileLeft, fork: Fork, left: &ForkLeft) -> Option<ContainerDa
 }
 
 /// The file that bytes hold, in spite of a fault of its container, if they look like a file with a fork in it.
+#[tactic(auto, using(crate::proofs::Salvaging::told_no_fork, crate::proofs::Salvaging::other_where))]
 fn file_left<'a>(alloc: Global, bytes: &'a [u8]) -> Result<FileLeft<'a>, Refusal>
     ensures file { IfOk result (HasLeft bytes.now) }
     ensures refused { IfErr result (IsNotLeft bytes.now) }
@@ -117,6 +118,7 @@ fn file_left<'a>(alloc: Global, bytes: &'a [u8]) -> Result<FileLeft<'a>, Refusal
 }
 
 /// The resource fork of a file that holds these bytes.
+#[tactic(auto, using(crate::proofs::Salvaging::told_no_fork, crate::proofs::Salvaging::unopened_by, crate::proofs::Salvaging::absent_by))]
 fn fork_of<'a>(alloc: Global, file: &'a FileLeft<'_>, bytes: &[u8]) -> Result<ForkLeft<'a>, Refusal>
     requires { HasLeft bytes.now file.now }
     ensures fork { IfOk result (λ fork. (forks_in_spite bytes.now).resource_fork ≡ Some (left_by fork)) }
@@ -154,6 +156,7 @@ fn nothing_left(damage: Option<ContainerDamage>) -> Refusal
 
 /// A line for each resource that can be read of a file's fork, and for each that can't. It is refused where there is
 /// none, unless the fork has no fault.
+#[tactic(auto, using(crate::proofs::Salvaging::kept_not_listed, crate::proofs::Salvaging::not_listed, crate::proofs::Salvaging::none_listed))]
 pub fn salvage_list(alloc: Global, letters: Letters, bytes: &[u8]) -> Result<SalvageList, Refusal>
     ensures list { IfOk result (Lists letters bytes.now) }
     ensures refused { IfErr result (IsNotListed letters bytes.now) }
@@ -190,6 +193,7 @@ fn left_of(
 }
 
 /// A fork of all resources that can be read of a file's fork.
+#[tactic(auto, using(crate::proofs::Salvaging::kept_not_salvaged, crate::proofs::Salvaging::not_salvaged, crate::proofs::Salvaging::none_salvaged))]
 pub fn salvage(alloc: Global, bytes: &[u8]) -> Result<ForkSalvaged, Refusal>
     ensures salvaged { IfOk result (Salvages bytes.now) }
     ensures refused { IfErr result (IsNotSalvaged bytes.now) }
@@ -210,6 +214,7 @@ pub fn salvage(alloc: Global, bytes: &[u8]) -> Result<ForkSalvaged, Refusal>
 }
 
 /// The data fork of a file that holds these bytes.
+#[tactic(auto, using(crate::proofs::Salvaging::told_no_fork, crate::proofs::Salvaging::unopened_by, crate::proofs::Salvaging::data_not_salvaged))]
 fn data_of<'a>(alloc: Global, file: &'a FileLeft<'_>, bytes: &[u8]) -> Result<ForkLeft<'a>, Refusal>
     requires { HasLeft bytes.now file.now }
     ensures fork { IfOk result (λ fork. (forks_in_spite bytes.now).data_fork ≡ Some (left_by fork)) }
@@ -225,6 +230,7 @@ fn data_of<'a>(alloc: Global, file: &'a FileLeft<'_>, bytes: &[u8]) -> Result<Fo
 }
 
 /// The data fork of a file, as far as its bytes are there. It is refused where there are none.
+#[tactic(auto, using(crate::proofs::Salvaging::kept_no_data))]
 pub fn salvage_data<'a>(alloc: Global, bytes: &'a [u8]) -> Result<DataSalvaged<'a>, Refusal>
     ensures salvaged { IfOk result (SalvagesData bytes.now) }
     ensures refused { IfErr result (IsDataNotSalvaged bytes.now) }

@@ -13,7 +13,7 @@ readable_of (Some some) answer known = known
 
 pub returns-then-not-is_some_and-clause-nothing : goal.returns-then-not-is_some_and-clause-nothing
 returns-then-not-is_some_and-clause-nothing c = (
-  refl,
+  c.nothing_left.ensures,
   (some_if _ _ c.is_empty.ensures c.if-is_empty.false, faulty _ _ c.first_fault.ensures.refuses c.if-is_none.ensures),
   sym ((readable_of _ _ c.is_some_and.ensures) ∙ ap (λ (t : Option Tally). is_readable t) c.tally_of-tally.ensures) ∙ c.if-not-is_some_and.true,
 )
