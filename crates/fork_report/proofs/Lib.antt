@@ -1,4 +1,4 @@
 pub mod Counts
 pub mod Refusing
 pub mod Salvaging
-pub mod Inside
+pub mod Archived
