@@ -1,6 +1,6 @@
-use Rattle.std.proofs.Common.{◌≡◌, List, Option, take, drop, sym, subst, IfSome}
+use Rattle.std.proofs.Common.{Option, take, drop, sym, subst, IfSome}
 use Rattle.std.proofs.lemmas.List.{take-append-drop}
-use Rattle.fork_folder.specs.Added.{IsAdded, IsNamedSo}
+use Rattle.fork_folder.specs.Added.{IsNamedSo}
 use Rattle.fork_folder.specs.declared.added.Named.{Named}
 use Rattle.fork_folder.proofs.added.add.Goals as goal
 
