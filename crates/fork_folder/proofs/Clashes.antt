@@ -3,6 +3,7 @@ use Rattle.std.proofs.Common.{◌≡◌, ℕ, ◌+◌, ◌<◌, ◌&&◌, ◌||�
 use Rattle.std.specs.Prelude.{not, bytes_eq, count_by}
 use Rattle.std.specs.List.{list_any}
 use Rattle.std.proofs.lemmas.Bool.{cases_Bool, eqb-false, eqb-true}
+use Rattle.std.proofs.lemmas.List.Sums.{sum_by-cons}
 use Rattle.std.proofs.lemmas.Slice.Eq.{bytes_eq-Decides}
 use Rattle.fork_bytes.specs.Rows.{Row}
 use Rattle.fork_folder.specs.Names.{clash, folded}
@@ -30,7 +31,8 @@ counts : (kind : List ℕ) (rows : List Row)
     → Apart (list_any (clash kind) (types_of rows)) (count_by (λ row. bytes_eq row.kind kind) rows) (count_by (λ row. bytes_eq (folded row.kind) (folded kind)) rows)
 counts kind [] = refl
 counts kind (row ∷ rows) =
-    step (bytes_eq row.kind kind) (bytes_eq (folded row.kind) (folded kind)) (list_any (clash kind) (types_of rows)) _ _ (same_folded kind row.kind) (counts kind rows)
+    rw (sum_by-cons (λ (row : Row). cond (bytes_eq row.kind kind) 1 0) row rows, sum_by-cons (λ (row : Row). cond (bytes_eq (folded row.kind) (folded kind)) 1 0) row rows)
+    (step (bytes_eq row.kind kind) (bytes_eq (folded row.kind) (folded kind)) (list_any (clash kind) (types_of rows)) _ _ (same_folded kind row.kind) (counts kind rows))
 
 differ : (any : Bool) (a b : ℕ) → Apart any a b → not (eqb a b) ≡ any
 differ true a b apart = elim (cases_Bool (eqb a b)) [

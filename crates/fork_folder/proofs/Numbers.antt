@@ -1,6 +1,6 @@
 -- What the name of a file shows of a resource's id, and of which one it is.
 use Rattle.std.proofs.Common.{◌≡◌, ◌≢◌, ℕ, zero, suc, ◌+◌, ◌<◌, ◌≤◌, ◌⊎◌, inl, inr, List, [], ◌∷◌, ◌++◌, length, slice_index, drop, ◌%◌, ◌^◌, Option, None, Some, refl, sym, ap, ◌∙◌, arith}
-use Rattle.std.specs.Prelude.{ℤ, pos, negsuc, codes, ⊤}
+use Rattle.std.specs.Prelude.{ℤ, pos, negsuc, codes}
 use Rattle.std.specs.List.{AllByRecursion}
 use Rattle.std.specs.Fmt.{decimal, signed_decimal}
 use Rattle.std.proofs.lemmas.Bool.{lt-leb}
@@ -8,7 +8,7 @@ use Rattle.std.proofs.lemmas.List.{map-append}
 use Rattle.std.proofs.lemmas.Fmt.{decimal_by_steps, decimal_injective, decimal_nonempty, signed_decimal_injective}
 use Rattle.std.proofs.Math.Dec.{eqb-suc-zero}
 use lib.Signed.{mag}
-use Rattle.fork_folder.specs.Names.{file_name, folded, is_capital, name_text, nth_text, small_of}
+use Rattle.fork_folder.specs.Names.{file_name, folded, name_text, nth_text, small_of}
 
 -- a byte of a number: none of those is a dot or a blank, or a letter
 abbrev IsOfNumber : ℕ → Type 0

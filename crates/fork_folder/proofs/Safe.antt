@@ -1,5 +1,5 @@
 -- The names of files and folders are such as file systems take.
-use Rattle.std.proofs.Common.{◌≡◌, ◌≢◌, ℕ, zero, suc, ◌+◌, ◌*◌, ◌<◌, ◌≤◌, ◌^◌, ◌%◌, ◌&&◌, Bool, true, false, if◌then◌else◌, eqb, leb, List, [], ◌∷◌, ◌++◌, length, take, slice_index, Option, None, Some, refl, sym, ap, ◌∙◌, arith, length-append}
+use Rattle.std.proofs.Common.{◌≡◌, ◌≢◌, ℕ, zero, suc, ◌+◌, ◌*◌, ◌<◌, ◌≤◌, ◌^◌, ◌%◌, ◌&&◌, Bool, true, false, if◌then◌else◌, eqb, leb, List, [], ◌∷◌, ◌++◌, length, take, slice_index, Option, None, Some, refl, sym, ◌∙◌, arith, length-append}
 use Rattle.std.specs.Prelude.{ℤ, pos, negsuc, codes, All, IfSome, count_by, nat_lt, FitsSigned}
 use Rattle.std.specs.Int.{w16}
 use Rattle.std.specs.List.{AllByRecursion, flat_map, list_all, list_any}
@@ -11,7 +11,7 @@ use Rattle.std.proofs.lemmas.Fmt.{decimal_by_steps, length-decimal-le, decimal_n
 use Rattle.fork_bytes.specs.Rows.{Row}
 use Rattle.fork_list.specs.Listing.{is_chosen}
 use Rattle.fork_folder.specs.Names.{clash, file_name, folder_name, letter, name_text, nth_text, plain_name, plain_symbol, symbol, symbols, turned}
-use Rattle.fork_folder.specs.Unpacked.{Unpacked, file_of, files_from, is_same}
+use Rattle.fork_folder.specs.Unpacked.{file_of, files_from, is_same}
 use Rattle.fork_folder.specs.Laws.{HasSafeNames, IsNamed, IsSafe, is_safe}
 use Rattle.fork_folder.proofs.Apart.{all_picked}
 use Rattle.fork_folder.proofs.Numbers.{IsDigit, digits, later_text}

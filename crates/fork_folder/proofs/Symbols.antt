@@ -1,8 +1,8 @@
 -- What the folder of a type shows of it, to a file system that has no regard to case.
-use Rattle.std.proofs.Common.{◌≡◌, ℕ, suc, ◌+◌, ◌-◌, ◌*◌, ◌<◌, ◌≤◌, ◌==◌, Bool, true, false, eqb, if◌then◌else◌, List, [], ◌∷◌, ◌++◌, length, take, drop, slice_index, refl, sym, ap, ◌∙◌, append_assoc, arith}
+use Rattle.std.proofs.Common.{◌≡◌, ℕ, suc, ◌+◌, ◌-◌, ◌*◌, ◌<◌, ◌==◌, Bool, true, false, eqb, if◌then◌else◌, List, [], ◌∷◌, ◌++◌, length, take, drop, slice_index, refl, sym, ap, ◌∙◌, append_assoc, arith}
 use Rattle.std.specs.Prelude.{nat_le, nat_lt, not, All}
 use Rattle.std.proofs.lemmas.Bool.{agree_below_at, eqb-true, ltb-true}
-use Rattle.std.proofs.lemmas.List.{drop_at, get_or_append_left, map-append, take_at, length-map}
+use Rattle.std.proofs.lemmas.List.{drop_at, get_or_append_left, map-append, take_at}
 use Rattle.fork_folder.specs.Names.{folded, is_small, small_of, symbol, symbols, turned}
 
 -- how long a symbol is, by its first byte
