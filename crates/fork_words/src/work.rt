@@ -1,6 +1,6 @@
 //! The words of the commands that change files, and of those that compare them.
 
-ghost use Rattle.std.specs.Prelude.{◌≡◌, ℕ, List, codes, IfErr, IfOk, IfSome, None, Some, option_map};
+ghost use Rattle.std.specs.Prelude.{◌≡◌, ℕ, List, codes, IfErr, IfOk, IfSome, None, Some, is_some, option_map, true};
 ghost use Rattle.std.specs.Borrow.{Bor};
 ghost use Rattle.clap.specs.Matches.{first_value, found_of};
 ghost use Rattle.fork_words.specs.Asks.{IsFault};
@@ -246,8 +246,10 @@ fn place_in<'a>(matches: &ArgMatches<'a>, file: &'a str) -> Result<Place<'a>, Fa
 }
 
 /// A new file of the resources of a text or a folder. What goes with a file that is there is refused.
+#[tactic(auto, using(crate::proofs::Places::named_some))]
 fn new_place<'a>(matches: &ArgMatches<'a>, source: &'a str) -> Result<Place<'a>, Fault>
-    requires { first_value (found_of matches.now) (codes "into") ≡ None }
+    requires alone { first_value (found_of matches.now) (codes "into") ≡ None }
+    requires named { is_some (first_value (found_of matches.now) (codes "output")) ≡ true }
     ensures place { IfOk result (IsPlace (found_of matches.now) source.entry) }
     ensures refused { IfErr result (IsNoPlace (found_of matches.now)) }
 {
