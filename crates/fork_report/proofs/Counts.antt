@@ -3,8 +3,8 @@ use Rattle.std.proofs.Common.{◌≡◌, ◌≢◌, ℕ, ◌+◌, ◌<◌, ◌�
 use Rattle.std.specs.Prelude.{◌==◌, ◌||◌, nat_le, filter_map}
 use Rattle.std.specs.List.{list_any}
 use Rattle.std.proofs.lemmas.Bool.{cond-true, cond-false, or_from, or_left, or_right, lt-leb, ne_eqb}
-use Rattle.fork_salvage.specs.declared.salvaged.Item.{Item}
-use Rattle.fork_salvage.specs.declared.salvaged.Item.TheVariants.{Row, Lost, More, Run}
+use Rattle.fork_salvage.specs.declared.salvage.Item.{Item}
+use Rattle.fork_salvage.specs.declared.salvage.Item.TheVariants.{Row, Lost, More, Run}
 use Rattle.fork_answer.specs.Salvaged.{found_in}
 use Rattle.fork_report.specs.declared.damage.TheConstants.{MOST_FOUND}
 use Rattle.fork_report.specs.Damage.{is_more, is_run, tally_with}

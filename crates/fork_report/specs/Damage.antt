@@ -5,8 +5,8 @@ use Rattle.fork_bytes.specs.declared.fault.Condition.TheVariants.{Parts}
 use Rattle.fork_bytes.specs.declared.fault.ForkFault.{ForkFault}
 use Rattle.fork_bytes.specs.declared.fault.ForkFault.TheVariants.{EndOfFile, BadMap}
 use Rattle.fork_bytes.specs.Fork.{IsForkWithin, RefusesWithin, format_limits}
-use Rattle.fork_salvage.specs.declared.salvaged.Item.{Item}
-use Rattle.fork_salvage.specs.declared.salvaged.Item.TheVariants as item
+use Rattle.fork_salvage.specs.declared.salvage.Item.{Item}
+use Rattle.fork_salvage.specs.declared.salvage.Item.TheVariants as item
 use Rattle.fork_salvage.specs.Fault.{IsFault, refusal_of}
 use Rattle.fork_salvage.specs.Salvage.{items}
 use Rattle.fork_answer.specs.Salvaged.{readable}

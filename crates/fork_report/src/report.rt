@@ -176,6 +176,7 @@ fn fork_in<'a>(alloc: Global, bytes: &'a [u8]) -> Result<OldFile<'a>, Refusal>
 }
 
 /// All faults of a file's fork, and what is odd about it.
+#[tactic(auto, using(crate::proofs::Salvaging::refused_as))]
 fn check(alloc: Global, form: Form, name: &str, bytes: &[u8]) -> Result<Told, Refusal>
     ensures told { IfOk result (TellsOfFork (Report.Check form) bytes.now) }
     ensures archive { IfOk result (λ told. HasArchive bytes.now told.archive) }
