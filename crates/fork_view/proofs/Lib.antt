@@ -2,3 +2,4 @@ pub mod Steps
 pub mod Lengths
 pub mod ReadBack
 pub mod Stopping
+pub mod Reasons

@@ -158,10 +158,13 @@ fn sight_of_row(alloc: Global, row: &Row, form: Option<ShowAs>) -> Result<Sight,
 }
 
 /// Whether a type is the one that is asked for, if one is.
-fn is_of_kind(kind: Option<ResType>, own: ResType) -> bool
-    ensures { result ≡ is_of_kind kind own }
+fn is_of_kind(kind: &Option<ResType>, own: ResType) -> bool
+    ensures { result ≡ is_of_kind kind.now own }
 {
-    kind.is_none() || kind == Some(own)
+    match kind {
+        Some(kind) => *kind == own,
+        None => true,
+    }
 }
 
 /// Adds a resource after its title, or to those that can't be shown.
@@ -194,10 +197,10 @@ fn push_chosen(
     text: &mut String,
     others: &mut Vec<Untold>,
     row: &Row,
-    kind: Option<ResType>,
+    kind: &Option<ResType>,
     form: Option<ShowAs>,
 ) -> Result<(), AllocError>
-    ensures { OnOk result (others.new.items ≡ others.old.items ++ untold_in kind form row.now) }
+    ensures { OnOk result (others.new.items ≡ others.old.items ++ untold_in kind.now form row.now) }
 {
     if !is_of_kind(kind, row.kind) {
         return Ok(());
@@ -220,7 +223,7 @@ fn sight_of_rows(
     let mut text = String::new(alloc);
     let mut others = Vec::new(alloc);
     for row in rows {
-        push_chosen(alloc, &mut text, &mut others, row, kind, form)?;
+        push_chosen(alloc, &mut text, &mut others, row, &kind, form)?;
     }
     Ok(Sight {
         bytes: text.into_bytes(),
