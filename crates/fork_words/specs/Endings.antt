@@ -1,7 +1,7 @@
 -- The form of what is shown, by `--as` and by the ending of a file's name.
 use Rattle.std.specs.Prelude.{◌≡◌, ◌⊎◌, ℕ, ◌==◌, ◌||◌, if◌then◌else◌, Bool, true, false, List, map, codes, bytes_eq, Option, None, Some}
-use Rattle.core.specs.Char.{to_ascii_lowercase}
-use Rattle.core.specs.List.{ends_with}
+use Rattle.std.specs.Char.{to_ascii_lowercase}
+use Rattle.std.specs.List.{ends_with}
 use Rattle.fork_view.specs.declared.view.ShowAs.{ShowAs}
 use Rattle.fork_view.specs.declared.view.ShowAs.TheVariants.{Text, Hex, Png}
 use Rattle.fork_words.specs.declared.asked.NotAsked.{NotAsked}
