@@ -130,7 +130,7 @@ ADDED = [
     ("STR_/4 .bin", (b"STR ", 4, b"", 0)),
     ("STR_/-1.2 a%2Fb%80.bin", (b"STR ", -1, b"a/b\x80", 0)),
     ("%AAabc/129.bin", (b"\xaaabc", 129, None, 0)),
-    ("~%AA~abc/-32768.bin", (b"\xaaabc", -32768, None, 0)),
+    ("%AA~abc/-32768.bin", (b"\xaaabc", -32768, None, 0)),
     ("icl8/200.bin", (b"icl8", 200, None, 0)),
     ("~icl8/201.bin", (b"icl8", 201, None, 0)),
 ]
