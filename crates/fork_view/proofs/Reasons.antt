@@ -1,5 +1,5 @@
 -- Resources that can't be shown in a form.
-use Rattle.std.proofs.Common.{◌≡◌, Bool, true, false, if◌then◌else◌, Option, None, Some, Err, sym, subst}
+use Rattle.std.proofs.Common.{◌≡◌, Bool, true, false, if◌then◌else◌, Option, None, Some, Err, subst}
 use Rattle.fork_bytes.specs.Rows.{Row}
 use Rattle.fork_view.specs.declared.view.NotShown.{NotShown}
 use Rattle.fork_view.specs.declared.view.NotShown.TheVariants as unshown

@@ -12,7 +12,6 @@ use Rattle.fork_view.specs.declared.view.ShowAs.{ShowAs}
 use Rattle.fork_view.specs.declared.view.ShowAs.TheVariants.{Text, Png}
 use Rattle.fork_view.specs.declared.view.Sight.{Sight}
 use Rattle.fork_view.specs.declared.view.Untold.{Untold}
-use Rattle.fork_view.specs.declared.view.View.{View}
 use Rattle.fork_view.specs.Forms.{ends_early, picture_file}
 
 -- a resource that is a picture is shown as one, unless another form is asked for

@@ -1,7 +1,7 @@
 -- What is made of the files that resources are unpacked to.
 use Rattle.std.specs.Prelude.{◌≡◌, ◌⊎◌, ℕ, true, if◌then◌else◌, List, [], ◌∷◌, codes, bytes_eq, Option, None, Some, Result, Ok, Err}
 use Rattle.new_folder.specs.declared.calls.FolderCall.TheVariants.{Begin}
-use Rattle.new_folder.specs.NewFolder.{Event, Makes, StopsIn, event, path_below, with_file, with_folder}
+use Rattle.new_folder.specs.NewFolder.{Event, StopsIn, event, path_below, with_file, with_folder}
 use Rattle.fork_folder.specs.Unpacked.{Unpacked}
 
 -- the folder that is unpacked to is made, or found empty, after these calls; the newest comes first

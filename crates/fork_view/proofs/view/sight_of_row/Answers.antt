@@ -1,5 +1,4 @@
-use Rattle.std.proofs.Common.{◌≡◌, ◌∙◌, sym}
-use Rattle.fork_view.specs.Sights.{ShowsRow, why_untold}
+use Rattle.std.proofs.Common.{◌∙◌, sym}
 use Rattle.fork_view.proofs.Reasons.{shows_none}
 use Rattle.fork_view.proofs.view.sight_of_row.Goals as goal
 

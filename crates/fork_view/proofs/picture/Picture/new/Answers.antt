@@ -1,4 +1,4 @@
-use Rattle.std.proofs.Common.{◌∙◌, ap, length, List, arith}
+use Rattle.std.proofs.Common.{ap, length, List, arith}
 use Rattle.fork_view.specs.declared.dot.Dot.{Dot}
 use Rattle.fork_view.proofs.Lengths.{length-dots_of}
 use Rattle.fork_view.proofs.picture.Picture.new.Goals as goal
