@@ -48,7 +48,8 @@ IsRez found other = ⊥
 
 abbrev pub IsPack : Found → Work → Type 0
 IsPack found (work.Pack asked) = (asked.folder.now ≡ unwrap_or (first_value found (codes "folder")) [])
-    × (option_map (λ name. name.now) asked.like ≡ first_value found (codes "like")) × IsPlace found asked.folder asked.place
+    × (option_map (λ name. name.now) asked.like ≡ first_value found (codes "like")) × IsFlag found (codes "add") asked.adds
+    × IsPlace found asked.folder asked.place
 IsPack found other = ⊥
 
 -- no flag says what is done where a resource is there

@@ -82,8 +82,8 @@ pub(crate) fn view_form(
     word: Option<&str>,
     output: Option<&str>,
 ) -> Result<Option<ShowAs>, NotAsked>
-    ensures form { IfOk result (IsViewForm (option_map (λ word. word.now) word) (option_map (λ name. name.now) output)) }
-    ensures refused { IfErr result (IsFormFault (option_map (λ word. word.now) word) (option_map (λ name. name.now) output)) }
+    ensures form { IfOk result (IsViewForm (option_map (λ word. word.now) word.entry) (option_map (λ name. name.now) output.entry)) }
+    ensures refused { IfErr result (IsFormFault (option_map (λ word. word.now) word.entry) (option_map (λ name. name.now) output.entry)) }
 {
     match (word, output) {
         (Some(word), _) => match form_named(word) {

@@ -1,5 +1,4 @@
-use Rattle.std.proofs.Common.{rules, ◌≡◌, ◌∷◌, ◌++◌, [], List, ℕ, chars, refl, sym, ap, subst, ◌∙◌, append_assoc, append-nil}
-use Rattle.std.specs.Str.Iter.{chars_rest}
+use Rattle.std.proofs.Common.{rules, ◌∷◌, ◌++◌, [], List, ℕ, sym, ap, subst, ◌∙◌, append_assoc, append-nil}
 use Rattle.std.proofs.lemmas.Str.{IsUtf8-past_char, chars_past_char}
 use Rattle.std.proofs.StrCases.{chars_of_empty}
 use Rattle.fork_edit.specs.PathNames.{AreBytesOf}
@@ -16,9 +15,11 @@ loop-character-preserved c =
     let parts = c.in-Some.ensures.steps.0 in
     let step = chars_past_char _ _ character held.0 parts in (
       IsUtf8-past_char _ _ character held.0 parts,
-      (so_far.0 ++ character ∷ [],
-          so_far.1 ∙ ap (λ (cs : List ℕ). so_far.0 ++ cs) step ∙ sym (append_assoc so_far.0 (character ∷ []) _),
-          subst (AreBytesOf (so_far.0 ++ character ∷ [])) (sym c.in_ok-push.ensures.items) (bytes_more so_far.0 _ character c.roman_byte.result so_far.2 c.roman_byte.ensures)),
+      (
+        so_far.0 ++ character ∷ [],
+        so_far.1 ∙ ap (λ (cs : List ℕ). so_far.0 ++ cs) step ∙ sym (append_assoc so_far.0 (character ∷ []) _),
+        subst (AreBytesOf (so_far.0 ++ character ∷ [])) (sym c.in_ok-push.ensures.items) (bytes_more so_far.0 _ character c.roman_byte.result so_far.2 c.roman_byte.ensures),
+      ),
     )
 
 pub returns : goal.returns
