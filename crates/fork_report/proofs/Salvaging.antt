@@ -1,6 +1,7 @@
 -- What is salvaged of a file, and why nothing is.
-use Rattle.std.proofs.Common.{◌≡◌, ◌≢◌, ◌⊎◌, inl, inr, ℕ, Bool, true, false, List, [], Option, None, Some, Result, Ok, Err, refl, sym, ap, ◌∙◌, subst}
-use Rattle.std.specs.Prelude.{option_map}
+use Rattle.std.proofs.Common.{◌≡◌, ◌≢◌, ◌⊎◌, inl, inr, ℕ, Bool, true, false, List, [], Option, None, Some, Result, Ok, Err, IfNone, IfSome, length, refl, sym, ap, ◌∙◌, subst}
+use Rattle.std.specs.Prelude.{◌==◌, option_map}
+use Rattle.fork_bytes.specs.Fork.{IsForkWithin, format_limits}
 use Rattle.std.specs.Result.{result_err}
 use Rattle.fork_bytes.specs.declared.fault.ForkFault.{ForkFault}
 use Rattle.fork_bytes.specs.declared.fault.ForkFault.TheVariants as fork_fault
@@ -27,8 +28,9 @@ use Rattle.fork_report.specs.declared.damage.Damage.{Damage}
 use Rattle.fork_report.specs.declared.refusal.Refusal.{Refusal}
 use Rattle.fork_report.specs.declared.refusal.Refusal.TheVariants as refusal
 use Rattle.fork_report.specs.Damage.{IsDamageOf}
-use Rattle.fork_report.specs.Refused.{IsOther, IsRefused, IsRefusedAsOther, IsTakenForFork, IsToldOf, IsToldOfFork, LooksLikeFork}
+use Rattle.fork_report.specs.Refused.{IsOther, IsRefused, IsRefusedAsOther, IsTaken, IsTakenForFork, IsToldOf, IsToldOfFork, LooksLikeFork}
 use Rattle.fork_report.specs.declared.salvaged.ContainerDamage.{ContainerDamage}
+use Rattle.fork_report.proofs.Refusing.{empty_whole}
 use Rattle.fork_report.specs.Salvaged.{HasNothing, IsDataNotSalvaged, IsGone, IsNotKept, IsNotListed, IsNotSalvaged, IsRefusedWhere, IsUnreadable, ListsNothing, nothing_left}
 
 -- Files that are known as none with a fork.
@@ -48,7 +50,7 @@ known_in BinHex file unknown = absurd (cc unknown)
 known_in (Archive archive) file unknown = refl
 known_in Unknown file unknown = refl
 
-pub alone_in : (file : List ℕ) → is_known (kind_of file) ≡ false → IsForkIn file file
+alone_in : (file : List ℕ) → is_known (kind_of file) ≡ false → IsForkIn file file
 alone_in file unknown = known_in (kind_of file) file unknown
 
 known_text : (k : FileKind) → is_known k ≡ false → k ≢ BinHex
@@ -57,7 +59,7 @@ known_text BinHex unknown = absurd (cc unknown)
 known_text (Archive archive) unknown = λ is. absurd (cc is)
 known_text Unknown unknown = λ is. absurd (cc is)
 
-pub no_text : (file : List ℕ) → is_known (kind_of file) ≡ false → kind_of file ≢ BinHex
+no_text : (file : List ℕ) → is_known (kind_of file) ≡ false → kind_of file ≢ BinHex
 no_text file unknown = known_text (kind_of file) unknown
 
 -- a fault of a fork isn't want of memory
@@ -124,7 +126,7 @@ as_other file damage refusal.Nothing is refused = absurd is
 as_other file damage (refusal.NothingLeft container) is refused = absurd is
 as_other file damage refusal.TooMuch is refused = absurd is
 
-pub refused_other : (file fork : List ℕ) (damage : Damage) (told : Refusal) → file ≢ [] → is_known (kind_of file) ≡ false → IsDamageOf file fork damage
+refused_other : (file fork : List ℕ) (damage : Damage) (told : Refusal) → file ≢ [] → is_known (kind_of file) ≡ false → IsDamageOf file fork damage
     → IsOther file damage told → IsRefusedAsOther file told
 refused_other file fork damage told some unknown is_damage is =
     let same : fork ≡ file = fork_alone file fork unknown is_damage.found in
@@ -148,8 +150,26 @@ refused_as file refusal.Nothing is = absurd is
 refused_as file (refusal.NothingLeft container) is = absurd is
 refused_as file refusal.TooMuch is = absurd is
 
-pub taken_other : (file fork : List ℕ) (damage : Damage) → IsDamageOf file fork damage → IsTakenForFork damage.kind damage → LooksLikeFork file
+taken_other : (file fork : List ℕ) (damage : Damage) → IsDamageOf file fork damage → IsTakenForFork damage.kind damage → LooksLikeFork file
 taken_other file fork damage is_damage taken = (fork, damage, is_damage, subst (λ (k : FileKind). IsTakenForFork k damage) is_damage.kind taken)
+
+pub others_refused : (file fork : List ℕ) (damage : Damage) (found : Option Refusal) → file ≢ [] → is_known (kind_of file) ≡ false → IsDamageOf file fork damage
+    → IfSome found (IsOther file damage) → IfSome found (IsRefusedAsOther file)
+others_refused file fork damage None some unknown is_damage is = tt
+others_refused file fork damage (Some told) some unknown is_damage is = refused_other file fork damage told some unknown is_damage is
+
+pub others_taken : (file fork : List ℕ) (damage : Damage) (found : Option Refusal) → IsDamageOf file fork damage
+    → IfNone found (IsTakenForFork damage.kind damage) → IfNone found (IsTaken file)
+others_taken file fork damage None is_damage is = inr (inr (taken_other file fork damage is_damage is))
+others_taken file fork damage (Some told) is_damage is = tt
+
+-- bytes without a fault, and no bytes, are taken for a fork
+pub whole_taken : (file : List ℕ) → is_known (kind_of file) ≡ false
+    → (kind_of file ≢ BinHex → (fork : List ℕ) → IsForkIn file fork → IsForkWithin format_limits fork) → IsTaken file
+whole_taken file unknown whole = inr (inl (λ damaged. damaged.1 (whole (no_text file unknown) file (alone_in file unknown))))
+
+pub empty_taken : (file : List ℕ) → (length file == 0) ≡ true → IsTaken file
+empty_taken file is = inr (inl (empty_whole file is))
 
 -- and what is taken for one is damaged
 pub told_taken : (file : List ℕ) (damage : Damage) → (fork : List ℕ) × IsDamageOf file fork damage → IsTakenForFork damage.kind damage → IsTakenForFork (kind_of file) damage
