@@ -12,7 +12,8 @@ fn push_byte(all: &mut Vec<u8>, front: &[u8], begins: bool, byte: u8) -> Result<
     if begins {
         all.extend_from_slice(front)?;
     }
-    all.push(byte)
+    all.push(byte)?;
+    Ok(())
 }
 
 /// A text with these bytes before each of its lines.
