@@ -95,6 +95,19 @@ pub faulty : (fork : List ℕ) (found : Option Fault) → IfSome found (λ fault
 faulty fork None refuses some = absurd cc
 faulty fork (Some fault) refuses some = not_refused fork fault refuses
 
+-- whether a fork has a fault
+pub fault_damages : (fork : List ℕ) (found : Option Fault) → fork ≢ [] → IfSome found (λ fault. RefusesWithin format_limits fork (refusal_of fault))
+    → is_some found ≡ true → IsDamaged fork
+fault_damages fork found some refuses is = (some, faulty fork found refuses is)
+
+pub no_fault_damages : (fork : List ℕ) (found : Option Fault) → IfNone found (IsForkWithin format_limits fork) → is_some found ≡ false → ¬ IsDamaged fork
+no_fault_damages fork None whole is = λ damaged. damaged.1 whole
+no_fault_damages fork (Some fault) whole is = absurd (cc is)
+
+pub empty_whole : (fork : List ℕ) → (length fork == 0) ≡ true → ¬ IsDamaged fork
+empty_whole [] is = λ damaged. damaged.0 refl
+empty_whole (byte ∷ bytes) is = absurd (cc (sym is ∙ ne_eqb (length (byte ∷ bytes)) 0 (omega arith)))
+
 pub told_left : (fork : List ℕ) (tally : Option Tally) → IsDamaged fork → tally ≡ tally_of fork → is_readable tally ≡ true → TellsLeft fork tally
 told_left fork None damaged is some = absurd cc
 told_left fork (Some tally) damaged is some = (damaged, sym is, ltb-true 0 tally.readable some)

@@ -1,6 +1,7 @@
 -- What is salvaged of a file, and why nothing is.
-use Rattle.std.proofs.Common.{◌≡◌, ◌≢◌, ◌⊎◌, inl, inr, ℕ, Bool, true, false, List, [], Option, None, Some, Result, Ok, Err, refl, sym, ap, ◌∙◌, subst}
-use Rattle.std.specs.Prelude.{option_map}
+use Rattle.std.proofs.Common.{◌≡◌, ◌≢◌, ◌⊎◌, inl, inr, ℕ, Bool, true, false, List, [], Option, None, Some, Result, Ok, Err, IfNone, IfSome, length, refl, sym, ap, ◌∙◌, subst}
+use Rattle.std.specs.Prelude.{◌==◌, option_map, string_bytes}
+use Rattle.fork_bytes.specs.Fork.{IsForkWithin, format_limits}
 use Rattle.std.specs.Result.{result_err}
 use Rattle.fork_bytes.specs.declared.fault.ForkFault.{ForkFault}
 use Rattle.fork_bytes.specs.declared.fault.ForkFault.TheVariants as fork_fault
@@ -17,7 +18,11 @@ use Rattle.mac_files.specs.BinHex.{File, bin_hex_of}
 use Rattle.mac_files.specs.Containers.{fault_of}
 use Rattle.mac_files.specs.Kinds.{is_known, kind_of}
 use Rattle.mac_files.specs.OldFiles.{IsUnopened, Said, fork_said, old_file, read_as, told_by_text, unless_fault}
-use Rattle.mac_salvage.specs.InSpite.{Left, container_fault, forks_by_fault, forks_in_spite, whole_fork}
+use Rattle.mac_files.specs.declared.fault.Fork.{Fork}
+use Rattle.mac_files.specs.declared.fault.Fork.TheVariants as which
+use Rattle.mac_salvage.specs.declared.file.FileLeft.{FileLeft}
+use Rattle.mac_salvage.specs.InSpite.{Forks, IsShut, Left, container_fault, fault_by, forks_by, forks_by_fault, forks_in_spite, kind_by, whole_fork}
+use Rattle.mac_salvage.specs.Texts.{is_shut}
 use Rattle.fork_answer.specs.declared.answer.Failure.TheVariants as failure
 use Rattle.fork_answer.specs.declared.source.NoFork.{NoFork}
 use Rattle.fork_answer.specs.declared.source.NoFork.TheVariants as no_fork
@@ -26,10 +31,17 @@ use Rattle.fork_list.specs.declared.letters.Letters.{Letters}
 use Rattle.fork_report.specs.declared.damage.Damage.{Damage}
 use Rattle.fork_report.specs.declared.refusal.Refusal.{Refusal}
 use Rattle.fork_report.specs.declared.refusal.Refusal.TheVariants as refusal
-use Rattle.fork_report.specs.Damage.{IsDamageOf}
-use Rattle.fork_report.specs.Refused.{IsOther, IsRefused, IsRefusedAsOther, IsTakenForFork, IsToldOf, IsToldOfFork, LooksLikeFork}
+use Rattle.fork_report.specs.Damage.{IsDamageOf, IsDamaged}
+use Rattle.fork_report.specs.Refused.{IsOther, IsRefused, IsRefusedAsOther, IsTaken, IsTakenForFork, IsToldOf, IsToldOfFork, LooksLikeFork}
+use Rattle.fork_report.specs.declared.damage.TheConstants.{MOST_FOUND}
 use Rattle.fork_report.specs.declared.salvaged.ContainerDamage.{ContainerDamage}
-use Rattle.fork_report.specs.Salvaged.{HasNothing, IsDataNotSalvaged, IsGone, IsNotKept, IsNotListed, IsNotSalvaged, IsRefusedWhere, IsUnreadable, ListsNothing, nothing_left}
+use Rattle.fork_report.specs.declared.salvaged.DataSalvaged.{DataSalvaged}
+use Rattle.fork_report.specs.declared.salvaged.ForkSalvaged.{ForkSalvaged}
+use Rattle.fork_report.specs.declared.salvaged.SalvageList.{SalvageList}
+use Rattle.fork_answer.specs.Lines.{salvage_listing}
+use Rattle.fork_answer.specs.Mended.{IsMendedFork}
+use Rattle.fork_report.proofs.Refusing.{empty_whole}
+use Rattle.fork_report.specs.Salvaged.{HasLeft, HasNothing, IsDataNotSalvaged, IsGone, IsNotKept, IsNotLeft, IsNotListed, IsNotSalvaged, IsRefusedWhere, IsUnreadable, Lists, ListsNothing, Salvages, SalvagesData, TellsLeft, bytes_or_none, damage_by, damage_of, lack_by, nothing_left}
 
 -- Files that are known as none with a fork.
 
@@ -48,7 +60,7 @@ known_in BinHex file unknown = absurd (cc unknown)
 known_in (Archive archive) file unknown = refl
 known_in Unknown file unknown = refl
 
-pub alone_in : (file : List ℕ) → is_known (kind_of file) ≡ false → IsForkIn file file
+alone_in : (file : List ℕ) → is_known (kind_of file) ≡ false → IsForkIn file file
 alone_in file unknown = known_in (kind_of file) file unknown
 
 known_text : (k : FileKind) → is_known k ≡ false → k ≢ BinHex
@@ -57,7 +69,7 @@ known_text BinHex unknown = absurd (cc unknown)
 known_text (Archive archive) unknown = λ is. absurd (cc is)
 known_text Unknown unknown = λ is. absurd (cc is)
 
-pub no_text : (file : List ℕ) → is_known (kind_of file) ≡ false → kind_of file ≢ BinHex
+no_text : (file : List ℕ) → is_known (kind_of file) ≡ false → kind_of file ≢ BinHex
 no_text file unknown = known_text (kind_of file) unknown
 
 -- a fault of a fork isn't want of memory
@@ -124,7 +136,7 @@ as_other file damage refusal.Nothing is refused = absurd is
 as_other file damage (refusal.NothingLeft container) is refused = absurd is
 as_other file damage refusal.TooMuch is refused = absurd is
 
-pub refused_other : (file fork : List ℕ) (damage : Damage) (told : Refusal) → file ≢ [] → is_known (kind_of file) ≡ false → IsDamageOf file fork damage
+refused_other : (file fork : List ℕ) (damage : Damage) (told : Refusal) → file ≢ [] → is_known (kind_of file) ≡ false → IsDamageOf file fork damage
     → IsOther file damage told → IsRefusedAsOther file told
 refused_other file fork damage told some unknown is_damage is =
     let same : fork ≡ file = fork_alone file fork unknown is_damage.found in
@@ -148,8 +160,26 @@ refused_as file refusal.Nothing is = absurd is
 refused_as file (refusal.NothingLeft container) is = absurd is
 refused_as file refusal.TooMuch is = absurd is
 
-pub taken_other : (file fork : List ℕ) (damage : Damage) → IsDamageOf file fork damage → IsTakenForFork damage.kind damage → LooksLikeFork file
+taken_other : (file fork : List ℕ) (damage : Damage) → IsDamageOf file fork damage → IsTakenForFork damage.kind damage → LooksLikeFork file
 taken_other file fork damage is_damage taken = (fork, damage, is_damage, subst (λ (k : FileKind). IsTakenForFork k damage) is_damage.kind taken)
+
+pub others_refused : (file fork : List ℕ) (damage : Damage) (found : Option Refusal) → file ≢ [] → is_known (kind_of file) ≡ false → IsDamageOf file fork damage
+    → IfSome found (IsOther file damage) → IfSome found (IsRefusedAsOther file)
+others_refused file fork damage None some unknown is_damage is = tt
+others_refused file fork damage (Some told) some unknown is_damage is = refused_other file fork damage told some unknown is_damage is
+
+pub others_taken : (file fork : List ℕ) (damage : Damage) (found : Option Refusal) → IsDamageOf file fork damage
+    → IfNone found (IsTakenForFork damage.kind damage) → IfNone found (IsTaken file)
+others_taken file fork damage None is_damage is = inr (inr (taken_other file fork damage is_damage is))
+others_taken file fork damage (Some told) is_damage is = tt
+
+-- bytes without a fault, and no bytes, are taken for a fork
+pub whole_taken : (file : List ℕ) → is_known (kind_of file) ≡ false
+    → (kind_of file ≢ BinHex → (fork : List ℕ) → IsForkIn file fork → IsForkWithin format_limits fork) → IsTaken file
+whole_taken file unknown whole = inr (inl (λ damaged. damaged.1 (whole (no_text file unknown) file (alone_in file unknown))))
+
+pub empty_taken : (file : List ℕ) → (length file == 0) ≡ true → IsTaken file
+empty_taken file is = inr (inl (empty_whole file is))
 
 -- and what is taken for one is damaged
 pub told_taken : (file : List ℕ) (damage : Damage) → (fork : List ℕ) × IsDamageOf file fork damage → IsTakenForFork damage.kind damage → IsTakenForFork (kind_of file) damage
@@ -157,7 +187,7 @@ told_taken file damage (fork, is_damage) taken = subst (λ (k : FileKind). IsTak
 
 -- Why a file is refused.
 
-pub told_no_fork : (gone : Type 0) (file : List ℕ) (lack : NoFork) (told : Refusal) → gone → IsNoForkIn file lack → IsToldOf file (failure.NoFork lack) told
+told_no_fork : (gone : Type 0) (file : List ℕ) (lack : NoFork) (told : Refusal) → gone → IsNoForkIn file lack → IsToldOf file (failure.NoFork lack) told
     → IsRefusedWhere gone file told
 told_no_fork gone file (no_fork.File HostFull) told is_gone lacks is =
     subst (λ (r : Refusal). IsRefusedWhere gone file r) (sym is) (failure.NoFork (no_fork.File HostFull), lacks, refl)
@@ -258,7 +288,7 @@ not_salvaged file (refusal.Unknown text) is = is
 not_salvaged file refusal.NoHeader is = is
 not_salvaged file (refusal.Inside archive) is = is
 
-pub data_not_salvaged : (file : List ℕ) (told : Refusal) → IsRefusedWhere (IsGone file (forks_in_spite file).data_fork) file told → IsDataNotSalvaged file told
+data_not_salvaged : (file : List ℕ) (told : Refusal) → IsRefusedWhere (IsGone file (forks_in_spite file).data_fork) file told → IsDataNotSalvaged file told
 data_not_salvaged file (refusal.Container container told) is = is
 data_not_salvaged file (refusal.Show failed) is = is
 data_not_salvaged file (refusal.Archive archive) is = is
@@ -297,7 +327,7 @@ unopened_as file (Container why) is = is
 unopened_as file (Text why) is = is
 
 -- a file with a fault isn't opened
-pub unopened_by : (file : List ℕ) (why : FileFault) → container_fault file ≡ Some why → IsUnopened (kind_of file) file why
+unopened_by : (file : List ℕ) (why : FileFault) → container_fault file ≡ Some why → IsUnopened (kind_of file) file why
 unopened_by file why is = unopened_as file why (err_of (old_file file) why is)
 
 no_fork_of : (fork : Option (List ℕ)) → option_map whole_fork fork ≡ None → fork ≡ None
@@ -309,7 +339,7 @@ absent_as file (Ok said) whole none = ap Ok (no_fork_of said.resource_fork none)
 absent_as file (Err why) whole none = absurd (cc whole)
 
 -- a file without a fault and without a fork
-pub absent_by : (file : List ℕ) → container_fault file ≡ None → (forks_in_spite file).resource_fork ≡ None → fork_said (old_file file) ≡ Ok None
+absent_by : (file : List ℕ) → container_fault file ≡ None → (forks_in_spite file).resource_fork ≡ None → fork_said (old_file file) ≡ Ok None
 absent_by file whole none = absent_as file (old_file file) whole none
 
 -- of a file of which nothing is kept
@@ -324,10 +354,81 @@ kept_no_data file told is = data_not_salvaged file told (refused_where _ _ file 
 
 -- Nothing is read of a fork.
 
-pub none_listed : (letters : Letters) (file : List ℕ) (damage : Option ContainerDamage) → HasNothing (ListsNothing letters) file damage → IsNotListed letters file (nothing_left damage)
+none_listed : (letters : Letters) (file : List ℕ) (damage : Option ContainerDamage) → HasNothing (ListsNothing letters) file damage → IsNotListed letters file (nothing_left damage)
 none_listed letters file None has = has
 none_listed letters file (Some damage) has = has
 
-pub none_salvaged : (file : List ℕ) (damage : Option ContainerDamage) → HasNothing IsUnreadable file damage → IsNotSalvaged file (nothing_left damage)
+none_salvaged : (file : List ℕ) (damage : Option ContainerDamage) → HasNothing IsUnreadable file damage → IsNotSalvaged file (nothing_left damage)
 none_salvaged file None has = has
 none_salvaged file (Some damage) has = has
+
+-- What is kept of a file, and why nothing is.
+
+pub told_shut : (file : List ℕ) (why : FileFault) (told : Refusal) → IsUnopened (kind_of file) file why → IsShut file why
+    → IsToldOf file (failure.NoFork (no_fork.File why)) told → IsNotKept file told
+told_shut file HostFull told unopened shut is =
+    subst (λ (r : Refusal). IsNotKept file r) (sym is) (failure.NoFork (no_fork.File HostFull), unopened, refl)
+told_shut file (Container why) told unopened shut is = told_no_fork (is_shut file ≡ true) file (no_fork.File (Container why)) told shut unopened is
+told_shut file (Text why) told unopened shut is = told_no_fork (is_shut file ≡ true) file (no_fork.File (Text why)) told shut unopened is
+
+lacks_by : (file : List ℕ) (fault : Option FileFault) → container_fault file ≡ fault → (forks_in_spite file).resource_fork ≡ None → IsNoForkIn file (lack_by fault)
+lacks_by file None whole none = absent_by file whole none
+lacks_by file (Some why) is none = unopened_by file why is
+
+pub told_lack : (file : List ℕ) (left : FileLeft) (lack : NoFork) (told : Refusal) → HasLeft file left → None ≡ (forks_by left).resource_fork → lack ≡ lack_by (fault_by left)
+    → IsToldOf file (failure.NoFork lack) told → IsNotLeft file told
+told_lack file left lack told has none is told_is =
+    let gone : (forks_in_spite file).resource_fork ≡ None = sym (none ∙ ap (λ (f : Forks). f.resource_fork) has.forks) in
+    told_no_fork (IsGone file (forks_in_spite file).resource_fork) file lack told (inl gone)
+    (subst (λ (l : NoFork). IsNoForkIn file l) (sym is) (lacks_by file (fault_by left) (sym has.fault) gone)) told_is
+
+pub told_no_data : (file : List ℕ) (left : FileLeft) (why : FileFault) (told : Refusal) → HasLeft file left → (forks_by left).data_fork ≡ None → Some why ≡ fault_by left
+    → IsToldOf file (failure.NoFork (no_fork.File why)) told → IsDataNotSalvaged file told
+told_no_data file left why told has none is told_is =
+    let gone : (forks_in_spite file).data_fork ≡ None = ap (λ (f : Forks). f.data_fork) (sym has.forks) ∙ none in
+    data_not_salvaged file told
+    (told_no_fork (IsGone file (forks_in_spite file).data_fork) file (no_fork.File why) told (inl gone) (unopened_by file why (sym has.fault ∙ sym is)) told_is)
+
+-- what is said of a fault of the container
+damage_is : (file : List ℕ) (left : FileLeft) (which : Fork) (fork : Left) (damage : Option ContainerDamage) → HasLeft file left
+    → damage ≡ damage_by (kind_by left) which (fault_by left) fork → damage ≡ damage_of file which fork
+damage_is file left which fork damage has is =
+    is ∙ ap (λ (k : FileKind). damage_by k which (fault_by left) fork) has.kind ∙ ap (λ (f : Option FileFault). damage_by (kind_of file) which f fork) has.fault
+
+-- What is read of a fork, and that nothing is.
+
+pub lists_all : (letters : Letters) (file : List ℕ) (left : FileLeft) (fork : Left) (listed : SalvageList) → HasLeft file left
+    → (forks_in_spite file).resource_fork ≡ Some fork → string_bytes listed.text ≡ salvage_listing letters fork.bytes MOST_FOUND
+    → (IsDamaged fork.bytes → string_bytes listed.text ≢ []) → listed.damage ≡ damage_by (kind_by left) which.Resource (fault_by left) fork
+    → Lists letters file listed
+lists_all letters file left fork listed has is text some damage =
+    record { left = fork; fork = is; taken = has.taken; text = text; some = some; damage = damage_is file left which.Resource fork listed.damage has damage }
+
+pub lists_nothing : (letters : Letters) (file : List ℕ) (left : FileLeft) (fork : Left) (damage : Option ContainerDamage) (text : List ℕ) (told : Refusal) → HasLeft file left
+    → (forks_in_spite file).resource_fork ≡ Some fork → damage ≡ damage_by (kind_by left) which.Resource (fault_by left) fork
+    → text ≡ salvage_listing letters fork.bytes MOST_FOUND → (text ≡ []) × IsDamaged fork.bytes → told ≡ nothing_left damage → IsNotListed letters file told
+lists_nothing letters file left fork damage text told has is said all none told_is =
+    subst (λ (r : Refusal). IsNotListed letters file r) (sym told_is)
+    (none_listed letters file damage (fork, is, damage_is file left which.Resource fork damage has said, none.1, sym all ∙ none.0))
+
+pub salvages_all : (file : List ℕ) (left : FileLeft) (fork : Left) (salvaged : ForkSalvaged) → HasLeft file left
+    → (forks_in_spite file).resource_fork ≡ Some fork → IsMendedFork fork.bytes salvaged.bytes.items → TellsLeft fork.bytes salvaged.tally
+    → salvaged.damage ≡ damage_by (kind_by left) which.Resource (fault_by left) fork → Salvages file salvaged
+salvages_all file left fork salvaged has is mends tells damage =
+    record { left = fork; fork = is; taken = has.taken; mends = mends; tells = tells; damage = damage_is file left which.Resource fork salvaged.damage has damage }
+
+pub salvages_nothing : (file : List ℕ) (left : FileLeft) (fork : Left) (damage : Option ContainerDamage) (told : Refusal) → HasLeft file left
+    → (forks_in_spite file).resource_fork ≡ Some fork → damage ≡ damage_by (kind_by left) which.Resource (fault_by left) fork
+    → (told ≡ nothing_left damage) × IsDamaged fork.bytes × IsUnreadable fork.bytes → IsNotSalvaged file told
+salvages_nothing file left fork damage told has is said none =
+    subst (λ (r : Refusal). IsNotSalvaged file r) (sym none.0)
+    (none_salvaged file damage (fork, is, damage_is file left which.Resource fork damage has said, none.1.0, none.1.1))
+
+pub salvages_data : (file : List ℕ) (fork : Left) (salvaged : DataSalvaged) → HasLeft file salvaged.file → (forks_in_spite file).data_fork ≡ Some fork
+    → salvaged.damage ≡ damage_by (kind_by salvaged.file) which.Data (fault_by salvaged.file) fork → SalvagesData file salvaged
+salvages_data file fork salvaged has is damage = record {
+  left = fork;
+  fork = is;
+  bytes = ap (λ (f : Forks). bytes_or_none f.data_fork) has.forks ∙ ap bytes_or_none is;
+  damage = damage_is file salvaged.file which.Data fork salvaged.damage has damage;
+}

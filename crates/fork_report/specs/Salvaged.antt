@@ -10,6 +10,8 @@ use Rattle.mac_salvage.specs.InSpite.{Left, container_fault, fault_by, forks_by,
 use Rattle.mac_salvage.specs.Texts.{is_shut}
 use Rattle.fork_list.specs.declared.letters.Letters.{Letters}
 use Rattle.fork_answer.specs.declared.answer.Failure.TheVariants as failure
+use Rattle.fork_answer.specs.declared.source.NoFork.{NoFork}
+use Rattle.fork_answer.specs.declared.source.NoFork.TheVariants as no_fork
 use Rattle.fork_answer.specs.Lines.{salvage_listing}
 use Rattle.fork_answer.specs.Mended.{IsMendedFork, IsTooBig}
 use Rattle.fork_report.specs.declared.damage.Tally.{Tally}
@@ -47,6 +49,11 @@ IsGone file fork = (fork ≡ None) ⊎ (is_shut file ≡ true)
 -- why nothing is read of a file's resource fork
 abbrev pub IsNotLeft : List ℕ → Refusal → Type 0
 IsNotLeft file = IsRefusedWhere (IsGone file (forks_in_spite file).resource_fork) file
+
+-- why a file that is kept has no such fork: its container has a fault, or there is none in it
+abbrev pub lack_by : Option FileFault → NoFork
+lack_by None = no_fork.Absent
+lack_by (Some fault) = no_fork.File fault
 
 -- what is said of a fault of a file's container, where this is read of a fork
 abbrev pub damage_by : FileKind → Fork → Option FileFault → Left → Option ContainerDamage

@@ -175,7 +175,6 @@ impl Refusal {
 }
 
 /// Why these bytes, which are known as this, are taken for no file with a fork in it, if they aren't.
-#[tactic(auto, using(crate::proofs::Salvaging::refused_other, crate::proofs::Salvaging::taken_other, crate::proofs::Salvaging::alone_in, crate::proofs::Salvaging::no_text))]
 pub(crate) fn other_than_fork(alloc: Global, kind: FileKind, bytes: &[u8]) -> Option<Refusal>
     requires { kind ≡ kind_of bytes.now }
     ensures other { IfSome result (IsRefusedAsOther bytes.now) }

@@ -1,10 +1,10 @@
 //! What is salvaged of a file: of its resource fork what can be read, and of its data fork the bytes that are there. A
 //! fault of the container is named, and is no hindrance.
 
-ghost use Rattle.std.specs.Prelude.{◌≡◌, IfErr, IfOk, IsTrue, Some, false};
-ghost use Rattle.mac_salvage.specs.InSpite.{fault_by, forks_in_spite, kind_by, left_by};
+ghost use Rattle.std.specs.Prelude.{◌≡◌, ◌≢◌, [], IfErr, IfOk, IsTrue, None, Some, false};
+ghost use Rattle.mac_salvage.specs.InSpite.{fault_by, forks_by, forks_in_spite, kind_by, left_by};
 ghost use Rattle.fork_report.specs.Damage.{IsDamaged, is_readable, tally_of};
-ghost use Rattle.fork_report.specs.Salvaged.{HasLeft, IsDataNotSalvaged, IsNotLeft, IsNotListed, IsNotSalvaged, Lists, Salvages, SalvagesData, TellsLeft, damage_by, data_by, nothing_left};
+ghost use Rattle.fork_report.specs.Salvaged.{HasLeft, IsDataNotSalvaged, IsNotKept, IsNotLeft, IsNotListed, IsNotSalvaged, Lists, Salvages, SalvagesData, TellsLeft, damage_by, data_by, lack_by, nothing_left};
 
 use crate::damage::{MOST_FOUND, Tally, tally_of};
 use crate::refusal::{Refusal, other_than_fork};
@@ -100,10 +100,10 @@ fn damage_by(file: &FileLeft, fork: Fork, left: &ForkLeft) -> Option<ContainerDa
 }
 
 /// The file that bytes hold, in spite of a fault of its container, if they look like a file with a fork in it.
-#[tactic(auto, using(crate::proofs::Salvaging::told_no_fork, crate::proofs::Salvaging::other_where))]
+#[tactic(auto, using(crate::proofs::Salvaging::told_shut, crate::proofs::Salvaging::other_where))]
 fn file_left<'a>(alloc: Global, bytes: &'a [u8]) -> Result<FileLeft<'a>, Refusal>
     ensures file { IfOk result (HasLeft bytes.now) }
-    ensures refused { IfErr result (IsNotLeft bytes.now) }
+    ensures refused { IfErr result (IsNotKept bytes.now) }
 {
     let file = match open_in_spite(alloc, bytes) {
         Ok(file) => file,
@@ -117,8 +117,17 @@ fn file_left<'a>(alloc: Global, bytes: &'a [u8]) -> Result<FileLeft<'a>, Refusal
     }
 }
 
+/// Why a file that is kept has no such fork.
+fn lack_of(file: &FileLeft) -> NoFork
+    ensures { result ≡ lack_by (fault_by file.now) }
+{
+    match file.fault() {
+        Some(fault) => NoFork::File(fault),
+        None => NoFork::Absent,
+    }
+}
+
 /// The resource fork of a file that holds these bytes.
-#[tactic(auto, using(crate::proofs::Salvaging::told_no_fork, crate::proofs::Salvaging::unopened_by, crate::proofs::Salvaging::absent_by))]
 fn fork_of<'a>(alloc: Global, file: &'a FileLeft<'_>, bytes: &[u8]) -> Result<ForkLeft<'a>, Refusal>
     requires { HasLeft bytes.now file.now }
     ensures fork { IfOk result (λ fork. (forks_in_spite bytes.now).resource_fork ≡ Some (left_by fork)) }
@@ -126,13 +135,7 @@ fn fork_of<'a>(alloc: Global, file: &'a FileLeft<'_>, bytes: &[u8]) -> Result<Fo
 {
     match file.resource_fork() {
         Some(fork) => Ok(fork),
-        None => {
-            let fault = match file.fault() {
-                Some(fault) => NoFork::File(fault),
-                None => NoFork::Absent,
-            };
-            Err(Refusal::of_failure(alloc, Failure::NoFork(fault), bytes))
-        }
+        None => Err(Refusal::of_failure(alloc, Failure::NoFork(lack_of(file)), bytes)),
     }
 }
 
@@ -141,7 +144,21 @@ fn is_damaged(alloc: Global, fork: &[u8]) -> bool
     ensures damaged { IsTrue result → IsDamaged fork.now }
     ensures whole { result ≡ false → ¬ IsDamaged fork.now }
 {
-    !fork.is_empty() && first_fault(alloc, fork).is_some()
+    if fork.is_empty() {
+        return false;
+    }
+    first_fault(alloc, fork).is_some()
+}
+
+/// Whether this text of what can be read of a fork shows nothing, and the fork has a fault.
+fn shows_nothing(alloc: Global, text: &str, fork: &[u8]) -> bool
+    ensures nothing { IsTrue result → (text.now ≡ []) × IsDamaged fork.now }
+    ensures some { result ≡ false → IsDamaged fork.now → text.now ≢ [] }
+{
+    if !text.is_empty() {
+        return false;
+    }
+    is_damaged(alloc, fork)
 }
 
 /// That nothing can be read of a fork, with what is said of a fault of the container.
@@ -156,7 +173,7 @@ fn nothing_left(damage: Option<ContainerDamage>) -> Refusal
 
 /// A line for each resource that can be read of a file's fork, and for each that can't. It is refused where there is
 /// none, unless the fork has no fault.
-#[tactic(auto, using(crate::proofs::Salvaging::kept_not_listed, crate::proofs::Salvaging::not_listed, crate::proofs::Salvaging::none_listed))]
+#[tactic(auto, using(crate::proofs::Salvaging::kept_not_listed, crate::proofs::Salvaging::not_listed, crate::proofs::Salvaging::lists_all, crate::proofs::Salvaging::lists_nothing))]
 pub fn salvage_list(alloc: Global, letters: Letters, bytes: &[u8]) -> Result<SalvageList, Refusal>
     ensures list { IfOk result (Lists letters bytes.now) }
     ensures refused { IfErr result (IsNotListed letters bytes.now) }
@@ -167,7 +184,7 @@ pub fn salvage_list(alloc: Global, letters: Letters, bytes: &[u8]) -> Result<Sal
         return Err(Refusal::Show(Failure::HostFull));
     };
     let damage = damage_by(&file, Fork::Resource, &fork);
-    if text.as_str().is_empty() && is_damaged(alloc, fork.bytes) {
+    if shows_nothing(alloc, text.as_str(), fork.bytes) {
         return Err(nothing_left(damage));
     }
     Ok(SalvageList { text, damage })
@@ -193,7 +210,7 @@ fn left_of(
 }
 
 /// A fork of all resources that can be read of a file's fork.
-#[tactic(auto, using(crate::proofs::Salvaging::kept_not_salvaged, crate::proofs::Salvaging::not_salvaged, crate::proofs::Salvaging::none_salvaged))]
+#[tactic(auto, using(crate::proofs::Salvaging::kept_not_salvaged, crate::proofs::Salvaging::not_salvaged, crate::proofs::Salvaging::salvages_all, crate::proofs::Salvaging::salvages_nothing))]
 pub fn salvage(alloc: Global, bytes: &[u8]) -> Result<ForkSalvaged, Refusal>
     ensures salvaged { IfOk result (Salvages bytes.now) }
     ensures refused { IfErr result (IsNotSalvaged bytes.now) }
@@ -214,23 +231,31 @@ pub fn salvage(alloc: Global, bytes: &[u8]) -> Result<ForkSalvaged, Refusal>
 }
 
 /// The data fork of a file that holds these bytes.
-#[tactic(auto, using(crate::proofs::Salvaging::told_no_fork, crate::proofs::Salvaging::unopened_by, crate::proofs::Salvaging::data_not_salvaged))]
 fn data_of<'a>(alloc: Global, file: &'a FileLeft<'_>, bytes: &[u8]) -> Result<ForkLeft<'a>, Refusal>
     requires { HasLeft bytes.now file.now }
     ensures fork { IfOk result (λ fork. (forks_in_spite bytes.now).data_fork ≡ Some (left_by fork)) }
     ensures refused { IfErr result (IsDataNotSalvaged bytes.now) }
 {
-    match (file.data_fork(), file.fault()) {
-        (Some(fork), _) => Ok(fork),
-        (None, Some(fault)) => {
-            Err(Refusal::of_failure(alloc, Failure::NoFork(NoFork::File(fault)), bytes))
-        }
-        (None, None) => Err(Refusal::NoData(file.kind().name())),
+    match file.data_fork() {
+        Some(fork) => Ok(fork),
+        None => Err(no_data(alloc, file, bytes)),
+    }
+}
+
+/// Why a file without a data fork has none.
+fn no_data(alloc: Global, file: &FileLeft, bytes: &[u8]) -> Refusal
+    requires left { HasLeft bytes.now file.now }
+    requires none { (forks_by file.now).data_fork ≡ None }
+    ensures { IsDataNotSalvaged bytes.now result }
+{
+    match file.fault() {
+        Some(fault) => Refusal::of_failure(alloc, Failure::NoFork(NoFork::File(fault)), bytes),
+        None => Refusal::NoData(file.kind().name()),
     }
 }
 
 /// The data fork of a file, as far as its bytes are there. It is refused where there are none.
-#[tactic(auto, using(crate::proofs::Salvaging::kept_no_data))]
+#[tactic(auto, using(crate::proofs::Salvaging::kept_no_data, crate::proofs::Salvaging::salvages_data))]
 pub fn salvage_data<'a>(alloc: Global, bytes: &'a [u8]) -> Result<DataSalvaged<'a>, Refusal>
     ensures salvaged { IfOk result (SalvagesData bytes.now) }
     ensures refused { IfErr result (IsDataNotSalvaged bytes.now) }
