@@ -232,7 +232,7 @@ fn sight_of_rows(
     })
 }
 
-/// What is shown of rows. Of several rows those that can't be shown in the form that is asked for are told with the
+/// What is shown of rows. Of several rows those that can't be shown in the form that is asked for are given with the
 /// others.
 pub fn sight_of(alloc: Global, view: &View, rows: &[Row]) -> Result<Sight, NotShown>
     ensures { ShowsChosen view.now.chosen view.now.form rows.now result }
