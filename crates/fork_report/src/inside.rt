@@ -66,7 +66,6 @@ impl fmt::Display for InsideNote<'_> {
 
 /// The archive or the image of a disk in a file in whose resource fork nothing is found: what its data fork is known
 /// as.
-#[tactic(auto, using(crate::proofs::Archived::archive_if_none, crate::proofs::Archived::none_if_some))]
 pub(crate) fn archive_in(found: &OldFile<'_>) -> Option<Archive>
     ensures { result ≡ archive_inside (said_by found.now) }
 {

@@ -173,7 +173,7 @@ fn nothing_left(damage: Option<ContainerDamage>) -> Refusal
 
 /// A line for each resource that can be read of a file's fork, and for each that can't. It is refused where there is
 /// none, unless the fork has no fault.
-#[tactic(auto, using(crate::proofs::Salvaging::kept_not_listed, crate::proofs::Salvaging::not_listed, crate::proofs::Salvaging::lists_all, crate::proofs::Salvaging::lists_nothing))]
+#[tactic(auto, using(crate::proofs::Salvaging::kept_not_listed, crate::proofs::Salvaging::not_listed))]
 pub fn salvage_list(alloc: Global, letters: Letters, bytes: &[u8]) -> Result<SalvageList, Refusal>
     ensures list { IfOk result (Lists letters bytes.now) }
     ensures refused { IfErr result (IsNotListed letters bytes.now) }
