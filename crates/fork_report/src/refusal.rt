@@ -121,7 +121,7 @@ impl Refusal {
     }
 
     /// What is reported of a fork that is refused: its first fault, with its place, if this file has a fork at all.
-    #[tactic(auto, using(crate::proofs::Refusing::told_damaged, crate::proofs::Salvaging::told_other, crate::proofs::Salvaging::told_taken))]
+    #[tactic(auto, using(crate::proofs::Salvaging::told_other, crate::proofs::Salvaging::told_taken))]
     fn of_damage(alloc: Global, refusal: ForkFault, file: &[u8]) -> Refusal
         ensures { IsToldOfFork file.now refusal result }
     {
