@@ -97,8 +97,8 @@ told_of_fork file fork_fault.HostFull told other is = absurd (other refl)
 -- an archive, or nothing that looks like a fork
 pub told_other : (file : List ℕ) (f : ForkFault) (damage : Damage) (told : Refusal) → (fork : List ℕ) × IsDamageOf file fork damage → IsOther file damage told → IsToldOfFork file f told
 told_other file f damage (refusal.Archive archive) (fork, is_damage) is = sym is_damage.kind ∙ is
-told_other file f damage (refusal.Unknown text) (fork, is_damage) is = ((sym is_damage.kind ∙ is.0, (fork, damage, is_damage, is.1.0)), is.1.1)
-told_other file f damage refusal.NoHeader (fork, is_damage) is = ((sym is_damage.kind ∙ is.0, (fork, damage, is_damage, is.1.0)), is.1.1)
+told_other file f damage (refusal.Unknown text) (fork, is_damage) is = ((sym is_damage.kind ∙ is.0, (fork, damage, is_damage, is.1)), is.2)
+told_other file f damage refusal.NoHeader (fork, is_damage) is = ((sym is_damage.kind ∙ is.0, (fork, damage, is_damage, is.1)), is.2)
 told_other file f damage (refusal.Show failure.HostFull) has is = tt
 told_other file f damage (refusal.Show failure.NotFound) has is = absurd is
 told_other file f damage (refusal.Show (failure.NoFork lack)) has is = absurd is
@@ -424,7 +424,7 @@ pub salvages_nothing : (file : List ℕ) (left : FileLeft) (fork : Left) (damage
     → (told ≡ nothing_left damage) × IsDamaged fork.bytes × IsUnreadable fork.bytes → IsNotSalvaged file told
 salvages_nothing file left fork damage told has is said none =
     subst (λ (r : Refusal). IsNotSalvaged file r) (sym none.0)
-    (none_salvaged file damage (fork, is, damage_is file left which.Resource fork damage has said, none.1.0, none.1.1))
+    (none_salvaged file damage (fork, is, damage_is file left which.Resource fork damage has said, none.1, none.2))
 
 pub salvages_data : (file : List ℕ) (fork : Left) (salvaged : DataSalvaged) → HasLeft file salvaged.file → (forks_in_spite file).data_fork ≡ Some fork
     → salvaged.damage ≡ damage_by (kind_by salvaged.file) which.Data (fault_by salvaged.file) fork → SalvagesData file salvaged
