@@ -32,7 +32,7 @@ use Rattle.fork_report.specs.declared.damage.Damage.{Damage}
 use Rattle.fork_report.specs.declared.refusal.Refusal.{Refusal}
 use Rattle.fork_report.specs.declared.refusal.Refusal.TheVariants as refusal
 use Rattle.fork_report.specs.Damage.{IsDamageOf, IsDamaged}
-use Rattle.fork_report.specs.Refused.{IsOther, IsRefused, IsRefusedAsOther, IsTaken, IsTakenForFork, IsToldOf, IsToldOfFork, LooksLikeFork}
+use Rattle.fork_report.specs.Refused.{IsOther, IsRefused, IsRefusedAsOther, IsTaken, IsTakenForFork, IsToldDamaged, IsToldOf, IsToldOfFork, LooksLikeFork}
 use Rattle.fork_report.specs.declared.damage.TheConstants.{MOST_FOUND}
 use Rattle.fork_report.specs.declared.salvaged.ContainerDamage.{ContainerDamage}
 use Rattle.fork_report.specs.declared.salvaged.DataSalvaged.{DataSalvaged}
@@ -40,7 +40,7 @@ use Rattle.fork_report.specs.declared.salvaged.ForkSalvaged.{ForkSalvaged}
 use Rattle.fork_report.specs.declared.salvaged.SalvageList.{SalvageList}
 use Rattle.fork_answer.specs.Lines.{salvage_listing}
 use Rattle.fork_answer.specs.Mended.{IsMendedFork}
-use Rattle.fork_report.proofs.Refusing.{empty_whole}
+use Rattle.fork_report.proofs.Refusing.{empty_whole, told_damaged}
 use Rattle.fork_report.specs.Salvaged.{HasLeft, HasNothing, IsDataNotSalvaged, IsGone, IsNotKept, IsNotLeft, IsNotListed, IsNotSalvaged, IsRefusedWhere, IsUnreadable, Lists, ListsNothing, Salvages, SalvagesData, TellsLeft, bytes_or_none, damage_by, damage_of, lack_by, nothing_left}
 
 -- Files that are known as none with a fork.
@@ -97,8 +97,8 @@ told_of_fork file fork_fault.HostFull told other is = absurd (other refl)
 -- an archive, or nothing that looks like a fork
 pub told_other : (file : List ℕ) (f : ForkFault) (damage : Damage) (told : Refusal) → (fork : List ℕ) × IsDamageOf file fork damage → IsOther file damage told → IsToldOfFork file f told
 told_other file f damage (refusal.Archive archive) (fork, is_damage) is = sym is_damage.kind ∙ is
-told_other file f damage (refusal.Unknown text) (fork, is_damage) is = ((sym is_damage.kind ∙ is.0, (fork, damage, is_damage, is.1.0)), is.1.1)
-told_other file f damage refusal.NoHeader (fork, is_damage) is = ((sym is_damage.kind ∙ is.0, (fork, damage, is_damage, is.1.0)), is.1.1)
+told_other file f damage (refusal.Unknown text) (fork, is_damage) is = ((sym is_damage.kind ∙ is.0, (fork, damage, is_damage, is.1)), is.2)
+told_other file f damage refusal.NoHeader (fork, is_damage) is = ((sym is_damage.kind ∙ is.0, (fork, damage, is_damage, is.1)), is.2)
 told_other file f damage (refusal.Show failure.HostFull) has is = tt
 told_other file f damage (refusal.Show failure.NotFound) has is = absurd is
 told_other file f damage (refusal.Show (failure.NoFork lack)) has is = absurd is
@@ -182,8 +182,10 @@ pub empty_taken : (file : List ℕ) → (length file == 0) ≡ true → IsTaken 
 empty_taken file is = inr (inl (empty_whole file is))
 
 -- and what is taken for one is damaged
-pub told_taken : (file : List ℕ) (damage : Damage) → (fork : List ℕ) × IsDamageOf file fork damage → IsTakenForFork damage.kind damage → IsTakenForFork (kind_of file) damage
-told_taken file damage (fork, is_damage) taken = subst (λ (k : FileKind). IsTakenForFork k damage) is_damage.kind taken
+pub told_taken : (file : List ℕ) (f : ForkFault) (damage : Damage) (told : Refusal) → (fork : List ℕ) × IsDamageOf file fork damage
+    → IsTakenForFork damage.kind damage → IsToldDamaged damage told → IsToldOfFork file f told
+told_taken file f damage told (fork, is_damage) taken is =
+    told_damaged file f damage told (fork, is_damage) (subst (λ (k : FileKind). IsTakenForFork k damage) is_damage.kind taken) is
 
 -- Why a file is refused.
 
@@ -422,7 +424,7 @@ pub salvages_nothing : (file : List ℕ) (left : FileLeft) (fork : Left) (damage
     → (told ≡ nothing_left damage) × IsDamaged fork.bytes × IsUnreadable fork.bytes → IsNotSalvaged file told
 salvages_nothing file left fork damage told has is said none =
     subst (λ (r : Refusal). IsNotSalvaged file r) (sym none.0)
-    (none_salvaged file damage (fork, is, damage_is file left which.Resource fork damage has said, none.1.0, none.1.1))
+    (none_salvaged file damage (fork, is, damage_is file left which.Resource fork damage has said, none.1, none.2))
 
 pub salvages_data : (file : List ℕ) (fork : Left) (salvaged : DataSalvaged) → HasLeft file salvaged.file → (forks_in_spite file).data_fork ≡ Some fork
     → salvaged.damage ≡ damage_by (kind_by salvaged.file) which.Data (fault_by salvaged.file) fork → SalvagesData file salvaged

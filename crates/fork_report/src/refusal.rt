@@ -121,7 +121,6 @@ impl Refusal {
     }
 
     /// What is reported of a fork that is refused: its first fault, with its place, if this file has a fork at all.
-    #[tactic(auto, using(crate::proofs::Refusing::told_damaged, crate::proofs::Salvaging::told_other, crate::proofs::Salvaging::told_taken))]
     fn of_damage(alloc: Global, refusal: ForkFault, file: &[u8]) -> Refusal
         ensures { IsToldOfFork file.now refusal result }
     {
@@ -180,9 +179,14 @@ pub(crate) fn other_than_fork(alloc: Global, kind: FileKind, bytes: &[u8]) -> Op
     ensures other { IfSome result (IsRefusedAsOther bytes.now) }
     ensures taken { IfNone result (IsTaken bytes.now) }
 {
-    if kind.is_known() || bytes.is_empty() {
+    if kind.is_known() {
         return None;
     }
-    let damage = Damage::of_file(alloc, bytes)?;
+    if bytes.is_empty() {
+        return None;
+    }
+    let Some(damage) = Damage::of_file(alloc, bytes) else {
+        return None;
+    };
     Refusal::of_other(alloc, &damage, bytes)
 }

@@ -127,6 +127,22 @@ fn digest_text_of(alloc: Global, choice: &Choice, fork: &[u8]) -> Result<String,
     Ok(digest_listing(alloc, choice.letters, choice.kinds.as_slice(), rows)?)
 }
 
+/// What is reported of what a file is, in this form.
+fn info_of(
+    alloc: Global,
+    form: Form,
+    digests: Digests,
+    name: &str,
+    found: &OldFile<'_>,
+) -> Result<String, Failure>
+    ensures { IfErr result (IsForkCause (fork_of found.now)) }
+{
+    match form {
+        Form::Text => info_text(alloc, digests, found),
+        Form::Json => info_line(alloc, name, digests, found),
+    }
+}
+
 /// What a file is.
 #[tactic(auto, using(crate::proofs::Refusing::opened_cause))]
 fn info(
@@ -141,11 +157,7 @@ fn info(
     ensures refused { IfErr result (IsRefused bytes.now) }
 {
     let found = file_in(alloc, bytes)?;
-    let text = match form {
-        Form::Text => info_text(alloc, digests, &found),
-        Form::Json => info_line(alloc, name, digests, &found),
-    };
-    match text {
+    match info_of(alloc, form, digests, name, &found) {
         Ok(text) => Ok(Told::of_file(text, &found)),
         Err(failure) => Err(Refusal::of_failure(alloc, failure, bytes)),
     }
@@ -186,7 +198,10 @@ fn check(alloc: Global, form: Form, name: &str, bytes: &[u8]) -> Result<Told, Re
     if let Some(refusal) = other_than_fork(alloc, found.kind(), bytes) {
         return Err(refusal);
     }
-    check_fork(alloc, form, name, &found).map_err(|_| Refusal::Show(Failure::HostFull))
+    match check_fork(alloc, form, name, &found) {
+        Ok(told) => Ok(told),
+        Err(_) => Err(Refusal::Show(Failure::HostFull)),
+    }
 }
 
 /// All faults of a fork. One without bytes has none.

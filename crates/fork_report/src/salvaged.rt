@@ -255,7 +255,7 @@ fn no_data(alloc: Global, file: &FileLeft, bytes: &[u8]) -> Refusal
 }
 
 /// The data fork of a file, as far as its bytes are there. It is refused where there are none.
-#[tactic(auto, using(crate::proofs::Salvaging::kept_no_data, crate::proofs::Salvaging::salvages_data))]
+#[tactic(auto, using(crate::proofs::Salvaging::kept_no_data))]
 pub fn salvage_data<'a>(alloc: Global, bytes: &'a [u8]) -> Result<DataSalvaged<'a>, Refusal>
     ensures salvaged { IfOk result (SalvagesData bytes.now) }
     ensures refused { IfErr result (IsDataNotSalvaged bytes.now) }
