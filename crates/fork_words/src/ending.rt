@@ -1,6 +1,6 @@
 //! The form of what `show` writes: the one that `--as` names, or that the ending of a file's name asks for.
 
-ghost use Rattle.std.specs.Prelude.{◌≡◌, false, IfErr, IfOk, option_map};
+ghost use Rattle.std.specs.Prelude.{◌≡◌, ◌||◌, false, IfErr, IfOk, option_map};
 ghost use Rattle.fork_words.specs.Endings.{IsEndingFault, IsFormFault, IsViewForm, form_by_ending, form_named, has_ending, is_other_picture, is_sound, is_unmade};
 
 use crate::asked::NotAsked;
@@ -57,6 +57,13 @@ fn is_sound(name: &[u8]) -> bool
         || has_ending(name, b".au")
 }
 
+/// Whether a name in small letters ends as that of a picture or a sound which isn't made.
+fn is_refused(name: &[u8]) -> bool
+    ensures { result ≡ is_other_picture name.now || is_sound name.now }
+{
+    is_other_picture(name) || is_sound(name)
+}
+
 /// The form that the ending of a name asks for, in capital or small letters, if it asks for one. That of a picture or a
 /// sound which isn't made is refused.
 fn form_by_ending(alloc: Global, name: &str) -> Result<Option<ShowAs>, NotAsked>
@@ -66,7 +73,7 @@ fn form_by_ending(alloc: Global, name: &str) -> Result<Option<ShowAs>, NotAsked>
 {
     let small = name.as_bytes().to_ascii_lowercase(alloc)?;
     let name = small.as_slice();
-    if is_other_picture(name) || is_sound(name) {
+    if is_refused(name) {
         return Err(NotAsked::Fault(Fault::NoEnding));
     }
     if has_ending(name, b".png") {
