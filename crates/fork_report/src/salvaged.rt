@@ -210,7 +210,7 @@ fn left_of(
 }
 
 /// A fork of all resources that can be read of a file's fork.
-#[tactic(auto, using(crate::proofs::Salvaging::kept_not_salvaged, crate::proofs::Salvaging::not_salvaged, crate::proofs::Salvaging::salvages_all, crate::proofs::Salvaging::salvages_nothing))]
+#[tactic(auto, using(crate::proofs::Salvaging::kept_not_salvaged, crate::proofs::Salvaging::not_salvaged))]
 pub fn salvage(alloc: Global, bytes: &[u8]) -> Result<ForkSalvaged, Refusal>
     ensures salvaged { IfOk result (Salvages bytes.now) }
     ensures refused { IfErr result (IsNotSalvaged bytes.now) }
