@@ -113,7 +113,7 @@ def try_unknown(bench):
     """All commands say the same of an archive and of a text."""
     for text, told in (
         (OLD_STUFFIT, "a StuffIt archive, which resfork doesn't unpack: unar -k hidden file"), (STUFFIT, "a StuffIt archive, which resfork doesn't unpack: unar -k hidden file"),
-        (b"hello, this is a text of some lines\n" * 9, "neither a resource fork nor a file that has one in it"), (b"short", "neither a resource fork nor a file that has one in it"),
+        (b"hello, this is a text of some lines\n" * 9, "neither a resource fork nor a file that has one in it"), (b"short", "neither a resource fork nor a file that has one in it: the header has 16 bytes, and 5 bytes are left in the fork\n  at $000000"),
     ):
         bench.write("file", text)
         for words in (["ls", "file"], ["check", "file"], ["info", "file"], ["get", "file", "TEXT", "1"], ["show", "file"], ["derez", "file"], ["rm", "file", "TEXT", "1"]):
