@@ -1,11 +1,10 @@
 -- What is reported of a failure.
 use Rattle.std.proofs.Common.{inl, inr, ◌≡◌, ◌≢◌, ℕ, Bool, true, false, List, Option, None, Some, Result, Ok, Err, IfNone, IfOk, IfSome, Vec, refl, sym, ap, ◌∙◌, subst, arith}
-use Rattle.std.specs.Prelude.{[], ◌⊎◌, unwrap_or, ◌==◌, ◌↔◌, ◌∷◌, IsTrue, length, not, is_some, String}
+use Rattle.std.specs.Prelude.{[], unwrap_or, ◌==◌, ◌↔◌, ◌∷◌, IsTrue, length, not, is_some}
 use Rattle.std.specs.declared.alloc.AllocError.{AllocError}
 use Rattle.std.specs.declared.alloc.Global.{Global}
 use Rattle.std.proofs.lemmas.Bool.{ltb-true, ne_eqb}
 use Rattle.fork_bytes.specs.declared.fault.ForkFault.{ForkFault}
-use Rattle.fork_bytes.specs.declared.fault.ForkFault.TheVariants as fork_fault
 use Rattle.fork_bytes.specs.declared.table.Table.{Table}
 use Rattle.fork_answer.specs.Answer.{IsTableOf}
 use Rattle.fork_bytes.specs.Fork.{IsForkWithin, RefusesWithin, format_limits}

@@ -1,5 +1,5 @@
 -- What is salvaged of a file, and why nothing is.
-use Rattle.std.proofs.Common.{◌≡◌, ◌≢◌, ◌⊎◌, inl, inr, ℕ, Bool, true, false, List, [], Option, None, Some, Result, Ok, Err, IfNone, IfSome, length, refl, sym, ap, ◌∙◌, subst}
+use Rattle.std.proofs.Common.{◌≡◌, ◌≢◌, inl, inr, ℕ, true, false, List, [], Option, None, Some, Result, Ok, Err, IfNone, IfSome, length, refl, sym, ap, ◌∙◌, subst}
 use Rattle.std.specs.Prelude.{◌==◌, option_map, string_bytes}
 use Rattle.fork_bytes.specs.Fork.{IsForkWithin, format_limits}
 use Rattle.std.specs.Result.{result_err}

@@ -1,5 +1,5 @@
 -- Archives and images of disks in the data forks of files.
-use Rattle.std.specs.Prelude.{◌≡◌, ◌≢◌, ℕ, ◌==◌, Bool, List, [], ◌++◌, length, unwrap_or, codes, bytes_eq, if◌then◌else◌, Option, None, Some, Ok}
+use Rattle.std.specs.Prelude.{◌≡◌, ◌≢◌, ℕ, ◌==◌, Bool, List, [], length, unwrap_or, codes, bytes_eq, if◌then◌else◌, Option, None, Some, Ok}
 use Rattle.path_text.specs.ShellWords.{shell_word}
 use Rattle.mac_files.specs.declared.archive.Archive.{Archive}
 use Rattle.mac_files.specs.declared.kind.FileKind.TheVariants.{BinHex}

@@ -9,7 +9,6 @@ use Rattle.mac_salvage.specs.declared.file.FileLeft.{FileLeft}
 use Rattle.mac_salvage.specs.InSpite.{Left, container_fault, fault_by, forks_by, forks_in_spite, kind_by}
 use Rattle.mac_salvage.specs.Texts.{is_shut}
 use Rattle.fork_list.specs.declared.letters.Letters.{Letters}
-use Rattle.fork_answer.specs.declared.answer.Failure.TheVariants as failure
 use Rattle.fork_answer.specs.declared.source.NoFork.{NoFork}
 use Rattle.fork_answer.specs.declared.source.NoFork.TheVariants as no_fork
 use Rattle.fork_answer.specs.Lines.{salvage_listing}

@@ -1,4 +1,4 @@
-use Rattle.std.proofs.Common.{◌≡◌, ◌∙◌, ap, refl, sym, Bool, false, Option, Some, None}
+use Rattle.std.proofs.Common.{◌≡◌, ◌∙◌, ap, sym, Bool, false, Option, Some, None}
 use Rattle.std.specs.Prelude.{MatchOption}
 use Rattle.fork_list.proofs.Reading.{some_if}
 use Rattle.fork_report.specs.declared.damage.Tally.{Tally}

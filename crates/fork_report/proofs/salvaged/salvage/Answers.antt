@@ -1,4 +1,3 @@
-use Rattle.std.proofs.Common.{refl}
 use Rattle.std.proofs.lemmas.Result.{err_from_is_err_and}
 use Rattle.mac_salvage.specs.InSpite.{left_by}
 use Rattle.fork_report.proofs.Salvaging.{salvages_all, salvages_nothing}
@@ -17,4 +16,4 @@ returns-in-Ok-clause-salvaged c =
     c.damage_by-damage.ensures
 
 pub returns-clause-refused : goal.returns-clause-refused
-returns-clause-refused c = (left_by c.in_ok-fork.fork, c.in_ok-fork.ensures.fork, c.in-Err-TooBig.ensures.too_big refl)
+returns-clause-refused c = (left_by c.in_ok-fork.fork, c.in_ok-fork.ensures.fork, c.in-Err-TooBig.ensures.too_big c.in-Err-TooBig.field-0-is)
