@@ -93,8 +93,7 @@ pub read_left : (text digits bytes : List ℕ) (colon count : ℕ) → Some colo
     → digits ≡ mended (take (length text - (colon + 1)) (drop (colon + 1) text)) → count ≡ length (decoded_from 0 digits).values
     → count ≤ most_of (length text) → bytes ≡ values_of (decoded_from 0 digits) → (is_shut text ≡ false) × (bytes ≡ bytes_left text)
 read_left text digits bytes colon count is mends counts under reads =
-    let all = mends ∙ ap mended (rest_of text (colon + 1)) in
-    (
+    let all = mends ∙ ap mended (rest_of text (colon + 1)) in (
       under_open text colon count (sym is) (counts ∙ ap (λ (d : List ℕ). length (decoded_from 0 d).values) all) under,
       reads ∙ ap (λ (d : List ℕ). values_of (decoded_from 0 d)) all ∙ ap (λ (found : Option ℕ). bytes_after found text) is,
     )

@@ -31,9 +31,9 @@ said_next at id bytes more =
 -- the list of a file
 pub places_double : (file : Parts) (at : ℕ) → IsFile file → places at (double_entries file)
     ≡ place 9 at 32 ++ (place 2 (at + 32) (length file.resource_fork)
-        ++ (places (at + 32 + length file.resource_fork) (said 3 file.name)
-            ++ (places (at + 32 + length file.resource_fork + length file.name) (said 4 file.comment)
-                ++ places (at + 32 + length file.resource_fork + length file.name + length file.comment) (said 8 (known_dates file)))))
+    ++ (places (at + 32 + length file.resource_fork) (said 3 file.name)
+    ++ (places (at + 32 + length file.resource_fork + length file.name) (said 4 file.comment)
+    ++ places (at + 32 + length file.resource_fork + length file.name + length file.comment) (said 8 (known_dates file)))))
 places_double file at is =
     let start = at + 32 + length file.resource_fork in
     ap (λ (n : ℕ). place 9 at n ++ (place 2 (at + n) (length file.resource_fork) ++ places (at + n + length file.resource_fork) (said 3 file.name ++ (said 4 file.comment ++ said 8 (known_dates file))))) (length-finder file is)

@@ -268,7 +268,7 @@ double_again file is fits =
     } in
     let told : (id : ℕ) → told_bytes (part_of id text) text ≡ bytes_with id es =
     λ id. ap (λ (xs : List Entry). told_bytes (option_and_then (λ (e : Entry). has_bytes e.part) (find (λ (e : Entry). e.id == id) xs)) text) are
-        ∙ told_there text [] id 26 start es body in
+    ∙ told_there text [] id 26 start es body in
     let finder : option_and_then (finder_in text) (part_of 9 text) ≡ Some file.finder =
     ap (λ (xs : List Entry). option_and_then (finder_in text) (option_and_then (λ (e : Entry). has_bytes e.part) (find (λ (e : Entry). e.id == 9) xs))) are
     ∙ said_there finder_in finder_by says_finder refl text [] 9 26 start es body ∙ finder_is file is in

@@ -67,7 +67,10 @@ fn run(rt: &HostRuntime) -> u8
     };
     match asked_by(rt.alloc(), words.as_slice()) {
         Ok(Command { asked, limit }) => done(&Host { rt, limit }, asked),
-        Err(fault) => tell_bad_words(rt, &with_words_in_lines(rt.alloc(), words.as_slice(), fault)),
+        Err(fault) => tell_bad_words(
+            rt,
+            &with_words_in_lines(rt.alloc(), words.as_slice(), fault),
+        ),
     }
 }
 

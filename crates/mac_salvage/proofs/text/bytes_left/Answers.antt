@@ -10,6 +10,6 @@ returns-clause-bytes c =
     (c.deref.ensures.value ∙ c.in_ok-mended.ensures) c.in-Some-decoded_length.ensures.some
     (subst (λ (n : ℕ). c.in-Some-decoded_length.count ≤ n) c.most_of.ensures c.if-most_of-count.false)
     (
-      c.in_ok-bytes.ensures.decoded.bytes ∙ ap (λ (n : ℕ). values_of (decoded_from n c.in_ok-bytes.field-0.text.now)) same.1
-      ∙ ap (λ (t : List ℕ). values_of (decoded_from 0 t)) (same.0 ∙ c.deref-2.ensures.value ∙ sym c.deref.ensures.value)
+    c.in_ok-bytes.ensures.decoded.bytes ∙ ap (λ (n : ℕ). values_of (decoded_from n c.in_ok-bytes.field-0.text.now)) same.1
+    ∙ ap (λ (t : List ℕ). values_of (decoded_from 0 t)) (same.0 ∙ c.deref-2.ensures.value ∙ sym c.deref.ensures.value)
     )

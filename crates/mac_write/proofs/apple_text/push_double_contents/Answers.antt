@@ -12,5 +12,5 @@ returns c =
     let i4 = c.extend_from_slice-3.new.self.items in let i5 = c.push_known_dates.new.new.items in
     after a i1 i5 (finder_text file) _ c.in_ok-push_finder.ensures
     (four_added i1 i2 i3 i4 i5 file.resource_fork file.name file.comment (known_dates file)
-        c.in_ok-extend_from_slice.ensures.items c.in_ok-extend_from_slice-2.ensures.items c.in_ok-extend_from_slice-3.ensures.items c.in_ok-push_known_dates.ensures)
+    c.in_ok-extend_from_slice.ensures.items c.in_ok-extend_from_slice-2.ensures.items c.in_ok-extend_from_slice-3.ensures.items c.in_ok-push_known_dates.ensures)
     ∙ ap (λ (xs : List ℕ). a ++ xs) (sym (contents_double file))
