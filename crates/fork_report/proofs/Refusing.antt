@@ -5,8 +5,6 @@ use Rattle.std.specs.declared.alloc.AllocError.{AllocError}
 use Rattle.std.specs.declared.alloc.Global.{Global}
 use Rattle.std.proofs.lemmas.Bool.{ltb-true, ne_eqb}
 use Rattle.fork_bytes.specs.declared.fault.ForkFault.{ForkFault}
-use Rattle.fork_bytes.specs.declared.table.Table.{Table}
-use Rattle.fork_answer.specs.Answer.{IsTableOf}
 use Rattle.fork_bytes.specs.Fork.{IsForkWithin, RefusesWithin, format_limits}
 use Rattle.fork_salvage.specs.declared.fault.Fault.{Fault}
 use Rattle.fork_salvage.specs.Fault.{refusal_of}
@@ -172,8 +170,3 @@ opened_cause file found failure.HostFull is cause = tt
 opened_cause file found (failure.NoFork fault) is cause = absurd cause
 opened_cause file found failure.NotFound is cause = absurd cause
 opened_cause file found (failure.Write fault) is cause = absurd cause
-
--- a fork that stands for a table isn't damaged
-pub not_damaged : (fork : List ℕ) (table : Table) → IsTableOf fork table → ¬ IsDamaged fork
-not_damaged fork table (inl none) = λ damaged. damaged.0 none.0
-not_damaged fork table (inr stands) = λ damaged. damaged.1 stands.0
