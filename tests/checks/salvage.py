@@ -335,12 +335,12 @@ def try_not_forks(program, path):
     out = path + ".out"
     for what, file, told in not_forks():
         save(path, file)
-        lines = 2 if told == OTHER and (len(file) < 16 or 0 in file[:16]) else 1
+        lines = (2, 3) if told == OTHER and (len(file) < 16 or 0 in file[:16]) else (1,)
         if os.path.exists(out):
             os.remove(out)
         for words in (["ls", path], ["salvage", path], ["salvage", path, "-o", out], ["salvage", path, "--data", out]):
             status, output, said = run(program, words)
-            must((status, output) == (3, b"") and said.startswith(f"{path}: {told}") and said.count("\n") == lines, f"{what}: {words} ended with {status}, wrote {output[:200]!r} and told {said!r}")
+            must((status, output) == (3, b"") and said.startswith(f"{path}: {told}") and said.count("\n") in lines, f"{what}: {words} ended with {status}, wrote {output[:200]!r} and told {said!r}")
         must(not os.path.exists(out), f"{what}: something was written")
     save(path, written([]))
     status, output, said = run(program, ["salvage", path, "--data", out])
