@@ -217,7 +217,7 @@ fn pack<'a>(host: &Host<'_>, asked: Packing<'a>) -> Result<u8, Failed<'a>>
 /// Which file is in the way where a fork isn't written of a text or a folder: the one that the new file is like, where
 /// that is a text which can't be read, or a container which can't hold the fork.
 pub fn file_at_fault<'a>(like: Option<&'a str>, source: &'a str, problem: &Problem) -> &'a str
-    ensures { result.now ≡ file_at_fault (option_map (λ like. like.now) like) source.now problem.now }
+    ensures { result.now ≡ file_at_fault (option_map (λ path. path.now) like.entry) source.now problem.now }
 {
     match (like, problem) {
         (Some(like), Problem::Write(NotWritten::Text(_) | NotWritten::Container(_))) => like,
