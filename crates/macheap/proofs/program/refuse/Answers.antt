@@ -18,5 +18,5 @@ returns-clause-ends g c =
     let is = c.lacks_memory.ensures in
     let so = c.if-lacks_memory.false in
     let isnt : lacks_memory c.args.error.now ≡ false = grind (arith, is, so) in
-    let e = c.tell.ensures in
+    let e = c.tell_bad_words.ensures in
     ([], e.2, Took-none _ _, e.3, words_told c.args.error.now _ isnt (record { status = refl; unwritten = refl; text = e.0; some = e.1; says = e.4 }))
