@@ -73,10 +73,10 @@ def counted(program, path, words):
 
 
 def own_bytes(program, path):
-    """How many bytes a run reads of an empty file: those of the program itself."""
+    """How many bytes a run reads that prints something of an empty file: those of the program itself, and of the limits of its output."""
     with open(path, "wb"):
         pass
-    return counted(program, path, ["ls", path])[1]
+    return counted(program, path, ["info", path])[1]
 
 
 def try_count(program, path, words, wanted, most):
