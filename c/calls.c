@@ -102,7 +102,10 @@ static void misuse(void) {
         }
     }
     IS(mh_make_zone(&zone, BASE, 4096, 4096, 16), MH_PARAM_ERR);
-    IS(mh_make_zone(&zone, BASE, 1020, 4096, 24), MH_PARAM_ERR);
+    IS(mh_make_zone(&zone, BASE, 508, 4096, 24), MH_PARAM_ERR);
+    IS(mh_make_zone(&zone, BASE, 510, 4096, 24), MH_PARAM_ERR);
+    IS(mh_make_zone(&zone, BASE, 513, 4096, 24), MH_PARAM_ERR);
+    IS(mh_make_zone(&zone, BASE, 4096, 4097, 24), MH_PARAM_ERR);
     IS(mh_make_zone(&zone, BASE + 2, 4096, 4096, 24), MH_PARAM_ERR);
     IS(mh_make_zone(&zone, BASE, 4096, 4104, 24), MH_PARAM_ERR);
     IS(mh_make_zone(&zone, BASE, UINT32_MAX, UINT32_MAX, 32), MH_PARAM_ERR);
@@ -580,6 +583,25 @@ static void images(void) {
     ended(&zone);
 }
 
+/* The smallest zones, and sizes that are no multiple of 4: a master block, and what is left of 512 bytes or of 1,024 after the zone's
+ * header of 52. */
+static void small_zones(void) {
+    for (uint32_t size = 512; size < 516; size += 2) {
+        MhZone zone = sized(size, size, 24);
+        MAPS(&zone, {BASE + 52, 264, MH_MASTER, 0, 256, 0}, {BASE + 316, 196, MH_FREE, 0, 0, 0});
+        ended(&zone);
+        zone = sized(size, 1024 + 2, 32);
+        MAPS(&zone, {BASE + 52, 268, MH_MASTER, 0, 256, 0}, {BASE + 320, 192, MH_FREE, 0, 0, 0});
+        IS(new_handle(&zone, 300), BASE + 0x40);
+        MAPS(&zone, {BASE + 52, 268, MH_MASTER, 0, 256, 0}, {BASE + 320, 312, MH_REL, BASE + 0x40, 300, 0}, {BASE + 632, 392, MH_FREE, 0, 0, 0});
+        ended(&zone);
+    }
+    MhZone zone = MH_NO_ZONE;
+    IS(mh_make_zone_large(&zone, BASE, 514, 0x1000002, 32), MH_NO_ERR);
+    MAPS(&zone, {BASE + 52, 268, MH_MASTER, 0, 256, 0}, {BASE + 320, 192, MH_FREE, 0, 0, 0});
+    ended(&zone);
+}
+
 /* Two zones know nothing of each other. */
 static void two_zones(void) {
     MhZone one = fresh(), other = sized(4096, 4096, 32);
@@ -651,6 +673,7 @@ int main(void) {
     windows(24);
     windows(32);
     images();
+    small_zones();
     two_zones();
     large();
     printf("%d of %d checks differ\n", faults, checks);

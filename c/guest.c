@@ -387,6 +387,21 @@ static void refused(Guest *guest, const uint8_t *bits, const MhWritten *written,
     ram[at] ^= change;
 }
 
+/* The zone falls asleep: each byte that differs from what it was when it woke is in one of so many ranges at most, which are in order. */
+static void slept_telling(int line, Guest *guest, const uint8_t *woken, size_t room) {
+    MhWritten ranges[20];
+    size_t count = 77, end = 0;
+    same(line, "the code of mh_sleep_wrote", mh_sleep_wrote(&guest->zone, &guest->asleep, &guest->memory, ranges, room, &count), MH_NO_ERR);
+    same(line, "the bytes' place", guest->memory.start == ram && guest->memory.here, true);
+    same(line, "so many ranges", count <= room, true);
+    for (size_t r = 0; r < count; end = ranges[r].from + ranges[r].count, r++) {
+        same(line, "ranges in order", ranges[r].from >= end && ranges[r].count > 0 && ranges[r].from + ranges[r].count <= guest->memory.length, true);
+        same(line, "bytes outside", memcmp(ram + end, woken + end, ranges[r].from - end), 0);
+    }
+    same(line, "bytes outside", memcmp(ram + end, woken + end, guest->memory.length - end), 0);
+}
+#define SLEEP_TELLING(guest, room) slept_telling(__LINE__, guest, before, room)
+
 /* A guest that writes contents and flags at random, and says where: the zone wakes by these ranges alone, with its bytes
  * and flags just as they are. */
 static void told_writes(uint32_t mode, uint32_t calls) {
@@ -426,8 +441,60 @@ static void told_writes(uint32_t mode, uint32_t calls) {
         else if (kind == 4) mh_compact_mem(&guest.zone, size, &number);
         else mh_reallocate_handle(&guest.zone, handles[one], size);
         mark(&guest, bits);
-        SLEEP(&guest);
+        if (n % 2) SLEEP(&guest);
+        else SLEEP_TELLING(&guest, 1 + below(20));
     }
+    ended(&guest);
+}
+
+/* Which bytes a call wrote: of a copy from block to block only the second's; none of another block's; all where the room is small. */
+static void what_was_written(uint32_t mode) {
+    enum { SIZE = 0x8000, BLOCK = 1000 };
+    uint32_t handles[20], number = 0;
+    MhWritten ranges[16];
+    size_t count = 77;
+    MhWindow window = {NULL, 0};
+    memset(ram, 0, LIMIT);
+    Guest guest = made(SIZE, SIZE, mode);
+    WAKE(&guest);
+    for (int i = 0; i < 20; i++) IS(mh_new_handle(&guest.zone, BLOCK, &handles[i]), MH_NO_ERR);
+    SLEEP(&guest);
+    memcpy(before, ram, SIZE);
+    WAKE(&guest);
+    IS(mh_sleep_wrote(&guest.zone, &guest.asleep, &guest.memory, ranges, 0, &count), MH_PARAM_ERR);
+    IS(count, 77);
+    IS(mh_hlock(&guest.zone, handles[19]), MH_NO_ERR);
+    SLEEP_TELLING(&guest, 16);
+    for (int way = 0; way < 3; way++) {
+        memcpy(before, ram, SIZE);
+        WAKE(&guest);
+        if (way == 0) IS(mh_block_move(&guest.zone, handles[2], 0, handles[12], 0, BLOCK), MH_NO_ERR);
+        if (way == 1) IS(mh_poke(&guest.zone, handles[12], 100, (const uint8_t *)"poke", 4), MH_NO_ERR);
+        if (way == 2) IS(mh_set_handle_size(&guest.zone, handles[12], 10), MH_NO_ERR);
+        IS(mh_sleep_wrote(&guest.zone, &guest.asleep, &guest.memory, ranges, 16, &count), MH_NO_ERR);
+        uint32_t place = (uint32_t)(bytes_of(&guest, handles[12]) - ram), all = 0;
+        for (size_t r = 0; r < count; r++) {
+            all += ranges[r].count;
+            IS(ranges[r].from + ranges[r].count <= 52 || (ranges[r].from + 200 > place && ranges[r].from + ranges[r].count < place + BLOCK + 200), true);
+        }
+        IS(all < BLOCK + 300, true);
+    }
+    memcpy(before, ram, SIZE);
+    WAKE(&guest);
+    IS(mh_lend(&guest.zone, handles[19]), MH_NO_ERR);
+    IS(mh_window(&guest.zone, handles[19], &window), MH_NO_ERR);
+    memset(window.start, 0x77, window.length);
+    SLEEP_TELLING(&guest, 16);
+    memcpy(before, ram, SIZE);
+    WAKE(&guest);
+    IS(mh_return(&guest.zone, handles[19]), MH_NO_ERR);
+    for (int i = 0; i < 19; i += 2) IS(mh_dispose_handle(&guest.zone, handles[i]), MH_NO_ERR);
+    IS(mh_sleep_wrote(&guest.zone, &guest.asleep, &guest.memory, ranges, 1, &count), MH_NO_ERR);
+    IS(count == 1 && ranges[0].from == 0 && ranges[0].count == SIZE, true);
+    memcpy(before, ram, SIZE);
+    WAKE(&guest);
+    IS(mh_compact_mem(&guest.zone, SIZE, &number), MH_NO_ERR);
+    SLEEP_TELLING(&guest, 16);
     ended(&guest);
 }
 
@@ -702,6 +769,7 @@ int main(int count, char **words) {
         each_byte(mode);
         random_calls(mode, 20000);
         told_writes(mode, 20000);
+        what_was_written(mode);
         lent_asleep(mode, 20000);
         patient(mode);
     }

@@ -11,8 +11,8 @@
  * Yours are the bytes that you, or a guest that you run, read and write; but not while a call on their zone runs.
  *
  * Each function is one call, and returns an OSErr: 0 (noErr) or a negative code. A call that is refused writes
- * nothing through its pointers (but mh_check, whose fault comes with MH_DAMAGED). What each does, to the byte, is what
- * the project's contracts say of the call of that name: crates/macheap_c/specs, and docs/THEOREM.md.
+ * nothing through its pointers (but mh_check and mh_look, whose fault comes with MH_DAMAGED). What each does, to the
+ * byte, is what the project's contracts say of the call of that name: crates/macheap_c/specs, and docs/THEOREM.md.
  *
  * What the caller promises, and nothing tests:
  *  - An MhZone begins as MH_NO_ZONE, and then only these functions write it. It may be moved, but a copy of one with a
@@ -71,9 +71,10 @@ typedef struct MhZone {
 
 #define MH_NO_ZONE {false, NULL}
 
-/* Makes a zone that begins at the address `base`, has `size` bytes and may grow to `limit` bytes, all of them multiples
- * of 4: size 1024 at least, limit 1048576 at most and size or at least 16 more, base $1000 at least, base + limit
- * $1000000 at most. `mode` is 24 or 32: blocks with headers of 8 or of 12 bytes. Else paramErr. */
+/* Makes a zone that begins at the address `base`, a multiple of 4, has `size` bytes and may grow to `limit` bytes, both
+ * even: the last two bytes of one that is no multiple of 4 aren't used. size is 512 at least, limit 1048576 at most and
+ * size or at least 16 more, base $1000 at least, base + limit $1000000 at most. `mode` is 24 or 32: blocks with headers
+ * of 8 or of 12 bytes. Else paramErr. */
 MhErr mh_make_zone(MhZone *zone, uint32_t base, uint32_t size, uint32_t limit, uint32_t mode);
 /* The same for a large zone. Only two bounds are other ones: limit 1073741824 at most, and base + limit $1000000 at
  * most in mode 24, whose headers and master pointers have no more bits, and below 2^32 in mode 32. The host gives 1.3
@@ -199,7 +200,7 @@ MhErr mh_image(MhZone *zone, uint8_t *bytes, size_t count);
  * end, its free bytes, its first free master pointer and its lowest free block, and any bytes in the guest's fields,
  * which are kept; its blocks fill it, none is larger than its contents need, and no two free ones are neighbours; a
  * handle's block and its master pointer lead to each other; free master pointers follow one another. Else it is
- * MH_DAMAGED. paramErr where count isn't size, for sizes that mh_make_zone_large doesn't take, and where a zone is
+ * MH_DAMAGED. paramErr where count isn't size, for sizes that mh_make_zone_at doesn't take, and where a zone is
  * there; memFullErr where the host has no memory. */
 MhErr mh_make_zone_of(MhZone *zone, uint32_t base, uint32_t size, uint32_t limit, uint32_t mode, const uint8_t *bytes,
                       size_t count);
@@ -297,9 +298,9 @@ typedef struct MhMemory {
 
 #define MH_NO_ASLEEP {MH_NO_ZONE}
 
-/* Makes a zone that sleeps, of the sizes that mh_make_zone_large takes, and writes its structure into the bytes, as
- * many as its limit; no other of them changes. paramErr where they are more or fewer or gone, where a zone sleeps
- * there, and for sizes that there aren't. */
+/* Makes a zone that sleeps, of the sizes that mh_make_zone_large takes and that are multiples of 4, and writes its
+ * structure into the bytes, as many as its limit; no other of them changes. paramErr where they are more or fewer or
+ * gone, where a zone sleeps there, and for sizes that there aren't. */
 MhErr mh_make_zone_at(MhAsleep *asleep, MhMemory *memory, uint32_t base, uint32_t size, uint32_t limit, uint32_t mode);
 /* Makes a zone that sleeps of the bytes as they are, whoever wrote them: of memory that was saved, or of a zone that
  * this library made in another program. No byte changes. `size` is how large the zone is now, since it may have grown:
@@ -335,6 +336,12 @@ MhErr mh_wake_written(MhZone *zone, MhAsleep *asleep, MhMemory *memory, const Mh
 /* Puts it to sleep. paramErr for a zone that isn't in bytes of the host, where another zone sleeps in `asleep`, and
  * where `memory` has bytes. What is lent stays lent, and queued answers, and what was asked, stay. */
 MhErr mh_sleep(MhZone *zone, MhAsleep *asleep, MhMemory *memory);
+/* Puts it to sleep as mh_sleep does, and says which bytes were written since it woke: the first `*written` of `ranges`,
+ * the lowest first. No byte outside them differs from what it was at mh_wake, be it in the zone's header or in a lent
+ * block. They are 16 at most, since writes near each other are one range; where `count`, which says for how many there is
+ * room, is less than there are, one range has all bytes. paramErr, too, where it is 0. `ranges` and `written` stay where
+ * it is refused. */
+MhErr mh_sleep_wrote(MhZone *zone, MhAsleep *asleep, MhMemory *memory, MhWritten *ranges, size_t count, size_t *written);
 /* Looks for damage, and changes no byte. If the bytes have the zone's structure the answer is 0. Else it is MH_DAMAGED,
  * and the fault is the first byte that is wrong: some bytes with the structure agree with these up to it, and none with
  * it. Flags in an empty handle's master pointer are no damage; memFullErr where there are such, and the host has no
@@ -355,6 +362,43 @@ MhErr mh_repair(MhAsleep *asleep, MhMemory *memory);
 /* Ends it, and what is lent is C's no more. The bytes are as they are. (mh_end_zone of a zone that is awake in bytes of
  * the host ends it, too, and these are never given back: put it to sleep first.) */
 MhErr mh_end_asleep(MhAsleep *asleep);
+
+/* A look at a zone that anyone made, as Inside Macintosh: Memory draws one ("Heap Zones" and "Block Headers" in chapter
+ * 2): for a debugger beside another emulator. It makes nothing, and only reads. `bytes` is memory from the zone's start
+ * on, which is at the address `base`: `length` bytes, as many as the zone has or more. `mode` is 24 or 32, else
+ * paramErr. The blocks come as mh_block shows them, lowest first, `room` of them at most; `count` is how many there
+ * are.
+ *
+ * Where something is wrong the code is MH_DAMAGED. The blocks are then those up to it, and `wrong` says what it is: of
+ * which kind, the address of what is wrong, the number that is found there, and the one that would be right, or the
+ * nearest that would. First comes what is wrong with the zone's header, then with its blocks, then with the list of
+ * free master pointers. All that a Macintosh leaves open is right: any number of master pointers in a block, slack,
+ * order of free master pointers, the fields of the header but bkLim and hFstFree, and a trailer or none. A master block
+ * is MH_PTR, but in a zone of this library, which marks it. docs/DIFFERENCES.md says what isn't certain ("Zones of
+ * others"). */
+enum {
+    MH_SHORT_ZONE = 1,   /* there are fewer bytes than the 52 of a zone's header */
+    MH_LOW_LIMIT = 2,    /* bkLim is before the first block */
+    MH_HIGH_LIMIT = 3,   /* bkLim is after the last of the bytes */
+    MH_CUT_HEADER = 4,   /* so many bytes are left, too few for a block's header */
+    MH_OVERLAPS = 5,     /* a block overlaps the next: its size is less than its header and its size correction */
+    MH_LEAVES_ZONE = 6,  /* a block's size leads out of the zone */
+    MH_ODD_SIZE = 7,     /* a block's size is odd */
+    MH_BAD_TAG = 8,      /* bits 7 and 6 of a block's tag are 3, which is no kind of block */
+    MH_BAD_ZONE = 9,     /* a nonrelocatable block says that it is in another zone */
+    MH_BAD_HANDLE = 10,  /* a relocatable block's master pointer isn't in the zone, by its offset from the start */
+    MH_BAD_MASTER = 11,  /* a relocatable block's master pointer leads elsewhere */
+    MH_BAD_FREE = 12,    /* a free master pointer isn't in the zone */
+    MH_ENDLESS_FREE = 13 /* the list of free master pointers has no end: so many are found, as many as fit at all */
+};
+typedef struct MhWrong {
+    uint32_t problem; /* MH_SHORT_ZONE to MH_ENDLESS_FREE */
+    uint32_t place;   /* its address */
+    uint32_t found;
+    uint32_t wanted;
+} MhWrong;
+MhErr mh_look(const uint8_t *bytes, size_t length, uint32_t base, uint32_t mode, MhBlock *blocks, size_t room,
+              size_t *count, MhWrong *wrong);
 
 #ifdef __cplusplus
 }

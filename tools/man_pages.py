@@ -31,6 +31,16 @@ STATUSES = [
     ("the command line has a mistake", "nothing", "a message", 2),
     ("the script has a fault", "the line `script fault at line N`", "what is wrong in that line", 3),
 ]
+# what --look does, its options, and its exit statuses
+LOOK = "Shows the blocks of a heap zone that anyone made, how many there are, and the first thing that is wrong with it, and runs nothing."
+LOOK_OPTIONS = [
+    ("look", "FILE", "A file of memory, up to 4294967296 bytes."),
+    ("base", "N", "The zone's address, in decimal digits, or as $ and hexadecimal ones (default 0)."),
+    ("from", "N", "The address of the file's first byte (default 0)."),
+    ("mode", "N", "The headers of its blocks, 24 or 32 (default 24)."),
+    ("json", "", "Writes JSON. Kinds of faults have the numbers of macheap(3)."),
+]
+LOOK_STATUSES = "0 if nothing is wrong, 1 if the file can't be read or the output not be written, 2 for a mistake in the words, 3 if something is wrong."
 # a comment of a header that begins a line, or what is between two of them
 ITEM = re.compile(r"^/\*(.*?)\*/\n|((?:(?!/\*)[^\n]*\n)+)", re.M | re.S)
 GUARD = re.compile(r'^#.*\n|^extern "C" \{\n|^\}\n', re.M)
@@ -82,7 +92,10 @@ def program():
     made = [head(1), ".SH NAME", f"macheap \\- {about[0].lower()}{about[1:]}", ".SH SYNOPSIS", ".B macheap"]
     for name, value, _ in options():
         made += [f".RB [ \\-\\-{name}", f".IR {value} ]" + ("...\\&" if value == "FILE" else "")] if value else [f".RB [ \\-\\-{name} ]"]
-    made += [".I < SCRIPT", ".SH DESCRIPTION", words("A script has a call of the Memory Manager or the Resource Manager in each line.")]
+    made += [".I < SCRIPT", ".br", ".B macheap \\-\\-look", ".I FILE"]
+    for name, value, _ in LOOK_OPTIONS[1:]:
+        made += [f".RB [ \\-\\-{name}", f".IR {value} ]"] if value else [f".RB [ \\-\\-{name} ]"]
+    made += [".SH DESCRIPTION", words("A script has a call of the Memory Manager or the Resource Manager in each line.")]
     made += [words("Each call prints its line number, name, result and code. docs/SCRIPT.md has the language and all calls.")]
     made += [".SH OPTIONS"]
     for name, value, said in options():
@@ -90,6 +103,10 @@ def program():
     made += [".TP", ".BR \\-h \", \" \\-\\-help", "Prints help, and runs nothing.", ".SH EXIT STATUS"]
     for what, output, message, status in STATUSES:
         made += [".TP", f".B {status}", words(f"{what[0].upper()}{what[1:]}. Standard output: {output}. Standard error: {message}.")]
+    made += [".SH A ZONE THAT OTHERS MADE", words(LOOK)]
+    for name, value, said in LOOK_OPTIONS:
+        made += [".TP", f'.BI \\-\\-{name} " {value}"' if value else f".B \\-\\-{name}", words(said)]
+    made += [".PP", words(f"The exit status is {LOOK_STATUSES}")]
     made += [".SH EXAMPLES", "After three lines of comment, the script", code(script), "prints", code(printed)]
     made += [".SH SEE ALSO", ".BR resfork (1),", ".BR macheap (3)"]
     return "\n".join(made) + "\n"

@@ -3,7 +3,7 @@
 # the shared library, and over the other with the sanitizers over the C side; the same of a zone in memory that a guest writes, with 40,000
 # random calls, as many where the host says what was written, and 600 zones that are damaged; of zones made of bytes that others wrote:
 # 100,000 of random bytes, 1,200 with a byte that was changed, and 40,000 random calls on zones that are made anew of their bytes; each
-# byte of a zone that is damaged, named and mended; bytes from outside the zone, with 40,000 random calls on each of two zones; 175,000
+# byte of a zone that is damaged, named and mended; a look at zones of its own, and at 20,000 that others made; bytes from outside the zone, with 40,000 random calls on each of two zones; 175,000
 # random calls, 100,000 of them on a zone that a guest writes, of which macheap prints the same; and 100,000 on resource files; resources
 # by their names, and other names for them; what all open resource files have together, after 4,000 random calls; 20,000 random reads and
 # writes of some of a resource's bytes; 255 resource files at a time; all traps, by their table; a zone and files that four threads use in
@@ -44,7 +44,12 @@ built attach -O2 "-Wl,-rpath,$tree/lib"
 "$room/attach"
 built damage -O2 "-Wl,-rpath,$tree/lib"
 "$room/damage"
+built look -O2 "-Wl,-rpath,$tree/lib"
+"$room/look"
+"$top/tests/checks/looked.py" "$library"
 library=$tree/lib/libmacheap.a
+built look -O1 -fsanitize=address,undefined
+"$room/look"
 built calls -O1 -fsanitize=address,undefined
 "$room/calls"
 built guest -O1 -fsanitize=address,undefined

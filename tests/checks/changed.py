@@ -16,7 +16,7 @@ import time
 
 from checks.fork_questions import Difference
 from checks.forks import Choices, compare, operand
-from checks.kept import DAMAGED, KEPT, write
+from checks.kept import DAMAGED, DATA, KEPT, write
 from checks.shown import fork_of, must
 from model.change import Missing, Taken, changed, copied, place, put, remove, rest, set_row, table_of
 from model.container import resource_fork
@@ -75,6 +75,12 @@ LINES = [
     (["rez", "TEXT", "--into", "NO_SUCH_FILE"], 4, "NO_SUCH_FILE"),
     (["rez", "TEXT", "--into", "DAMAGED"], 3, "DAMAGED: "),
     (["rez", "DOUBLED", "--into", "FILE", "--replace"], 1, "one type and id"),
+    (["rez", "NOTHING", "--into", "FILE"], 1, "NOTHING: there are no resources in it, and nothing is put into a file: name some in it, or an OUT"),
+    (["rez", "NOTHING", "--into", "NO_SUCH_FILE", "-n"], 1, "NOTHING: there are no resources in it"),
+    (["pack", "EMPTY", "--into", "FILE"], 1, "EMPTY: there are no resources in it, and nothing is put into a file"),
+    (["pack", "--like", "SINGLE", "EMPTY", "BINARY"], 4, "BINARY: it is there, and is more than a resource fork, which would be lost: name another file, or --force"),
+    (["pack", "--like", "OTHER", "EMPTY", "SINGLE"], 4, "SINGLE: it is there, and is more than a resource fork, which would be lost: name another file, or --force"),
+    (["pack", "--like", "SINGLE", "EMPTY", "SINGLE"], 4, "SINGLE: it is there, and has resources that the new file lacks, "),
     (["rez", "TEXT", "-o", "DAMAGED"], 4, "DAMAGED: it is there, and no resource fork that can be read"),
     (["rez", "TEXT", "-n", "-o", "DAMAGED"], 4, "DAMAGED: it is there, and no resource fork that can be read"),
     (["diff", "FILE", "DAMAGED"], 3, "DAMAGED: "),
@@ -406,9 +412,15 @@ def try_lines(program, folder):
     for name, bytes_of_it in (("TWO", two), ("TEXT", text), ("DOUBLED", run(program, ["derez", "-"], two)[1]), ("SINGLE", KEPT[0][0](fork))):
         names[name] = os.path.join(folder, name)
         write(names[name], bytes_of_it)
+    names["NOTHING"], names["EMPTY"] = os.path.join(folder, "nothing"), os.path.join(folder, "no resources")
+    write(names["NOTHING"], b"// nothing\n")
+    compare("unpack of nothing", run(program, ["unpack", "-", names["EMPTY"]]), 0, b"", "")
+    for name, kept in (("BINARY", KEPT[1][0](fork)), ("OTHER", KEPT[0][0](fork).replace(DATA, DATA[::-1]))):
+        names[name] = os.path.join(folder, name)
+        write(names[name], kept)
     for words, status, told in LINES:
         given = [words[0], *(names.get(it, it) if words[0] == "rez" or it != "TEXT" else it for it in words[1:])]
-        told = re.sub(r"^(FILE|DAMAGED):", lambda it: f"{names[it[1]]}:", told)
+        told = re.sub(r"^([A-Z]+):", lambda it: f"{names[it[1]]}:", told)
         got = run(program, given)
         must(got[0] == status and got[1] == b"" and told in got[2] and got[2], f"{words}: {got}")
     must(state(path) == before and read(damaged) == DAMAGED and not os.path.exists(out), "a file that is refused is touched")

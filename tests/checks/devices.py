@@ -5,7 +5,7 @@ call that fails isn't made: the line that made it answers ioErr, and no further 
 update the file keeps its bytes and stays open; else the file is closed. The lines after it answer as on a device that works again. With a
 journal the next start, or the next OpenResFile, finds the fork from before the update where the gate wasn't opened yet, and else the new
 one; but after a sync that failed each OpenResFile of that run answers ioErr. The calls and their numbers begin after those by which a start asks which
-file each of them is. Needs a C compiler: `cc`, or $CC.
+file each of them is, and syncs it. Needs a C compiler: `cc`, or $CC.
 """
 import os
 import subprocess
@@ -87,9 +87,12 @@ class Played:
         words = ["--fork", path] + (["--journal", beside] if journal is not None else []) + (["--fork", other] if second is not None else [])
         for name, data in ((path, fork), (other, second or b""), (log, b""), (beside, journal or b"")):
             with open(name, "wb") as file:
-                file.write(data)
-        # a start asks of each file, once it is open, which one it is; `asking` is the number of such a call, which fails
-        asks = "s" + ("S" if journal is not None else "") + ("s" if second is not None else "")
+                file.write(data or b"")
+        if fork is None:
+            os.remove(path)
+        # a start syncs the folder of a fork that it makes; it asks of each file, once it is open, which one it is, and syncs it; `asking` is the number of such a
+        # call, which fails
+        asks = ("y" if fork is None else "") + "sy" + ("SY" if journal is not None else "") + ("sy" if second is not None else "")
         numbers = {name: it + len(asks) if it and name in ("DEVICE_FAIL", "DEVICE_SHORT", "DEVICE_CUT") else it for name, it in settings.items()}
         numbers |= {"DEVICE_FAIL": asking} if asking else {}
         environment = {**os.environ, "LD_PRELOAD": shim, "DEVICE_LOG": log, "DEVICE_JOURNAL": beside, **{name: str(it) for name, it in numbers.items()}}
@@ -117,12 +120,17 @@ class Played:
 
 
 def asked(play):
-    """A file of which the system doesn't say which one it is isn't opened, and nothing is read or written."""
-    for turn, name in ((1, "fork"), (2, "journal")):
+    """A file of which the system doesn't say which one it is, or that it can't sync, isn't opened, and nothing is read or written."""
+    for turn, name, what in ((1, "fork", "which one it is"), (2, "fork", "a sync"), (3, "journal", "which one it is"), (4, "journal", "a sync")):
         played = play(HI, ["CountTypes"], b"", asking=turn)
         right = (1, "", f"cannot open @/{name}: the system refuses it; name another file\n", HI, b"")
         found = (played.status, played.printed, played.said, played.left, played.journal)
-        yield f"which one the {name} is", None if found == right else f"it ended so: {found}"
+        yield f"{what} of the {name}", None if found == right else f"it ended so: {found}"
+    yield "a fork that is made", play(None, ["CurResFile"]).fault(["1 CurResFile 1 0"], "s", b"")
+    played = play(None, ["CurResFile"], asking=1)
+    right = (1, "", "cannot open @/fork: the system refuses it; name another file\n", b"")
+    found = (played.status, played.printed, played.said, played.left)
+    yield "a sync of the folder of a fork that is made", None if found == right else f"it ended so: {found}"
 
 
 def opened(play):

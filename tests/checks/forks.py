@@ -189,7 +189,7 @@ def limits():
         yield f"{count} rows", one_map([(b"TEXT", count)], reference * count)
     # one list of references for each of 65 types, which are more than the map has room for
     yield "4,259,775 rows", one_list(65, 65535, reference)
-    # 1 MB, and a byte more, so often that macheap's limit is reached, and resfork's
+    # 1 MB, and a byte more, so often that macheap's limit is reached, which is resfork's where rows share bytes; and far more often
     for length in (1048572, 1048573):
         for count in (4, 256):
             yield f"{count} rows of {length} bytes", one_datum(length, count)

@@ -284,6 +284,10 @@ def try_spoiled(program, path, kind, what, file, rows):
         alone = run(program, ["salvage", raw, *words[:-1], *([raw + ".out"] if words else [])])
         if alone[0] == 0:
             must((status, output) == alone[:2], f"{what}: salvage {words} ended with {status} and wrote {output!r}, and of the fork alone {alone}")
+    # where something is written, each other command names salvage
+    words = ASKED[len(what) % len(ASKED)]
+    said = run(program, [words[0], path, *words[1:]])
+    must((said[0], said[1]) == (3, b"") and said[2].startswith(begins) and said[2].endswith(f": resfork salvage {path} -o OUT\n") == (status == 0), f"{what}: {words} told {said}")
     if resource is None or resource[1] != WHOLE:
         return False
     with open(out, "rb") as saved:
@@ -292,6 +296,7 @@ def try_spoiled(program, path, kind, what, file, rows):
 
 
 WHOLE = held_file()[0].resource
+ASKED = [["ls"], ["info"], ["check"], ["get", "TEXT", "128"], ["show"], ["derez"]]
 
 
 def try_containers(program, path):

@@ -4,6 +4,7 @@ Pictures are decoded from their PNG files by Python's zlib, and compared with th
 stand for. Forks are unpacked, and the folders are read back: each resource has a path of its own, without regard to case too, with its bytes;
 `resources.json` has all else. Nothing is overwritten, and a folder without `resources.json` is reported as a failure. Number: how many random forks.
 """
+import hashlib
 import json
 import os
 import random
@@ -12,7 +13,8 @@ import tempfile
 
 from checks.fork_questions import Difference
 from checks.forks import Choices, compare, run
-from model.fork import NoFork, Row, read_fork
+from checks.parts import whole
+from model.fork import NoFork, Row, listing, read_fork
 from model.shown import dots, file_name, folder_name, read_png
 
 RANDOM = random.Random(7)
@@ -159,6 +161,52 @@ def try_short(program, path):
     compare("show without a form", run(program, ["show", path, "STR "]), 0, ("STR  1\na\nSTR  2 \"b\"\n000000  02 62" + " " * 44 + ".b\nSTR  3\nc\n").encode(), "")
 
 
+# a compressed resource as System 7 has them: signature, header of 18 bytes, version 8, attributes, and 1024 bytes unpacked
+PACKED = bytes.fromhex("A89F6572 0012 08 01 00000400 4000 0000 0000") + bytes(range(110))
+TOLD = "compressed, 1024 bytes unpacked; its bytes can be had with get"
+
+
+def try_compressed_lists(program, path, rows):
+    """Compares how compressed resources are listed: of a file by its name and as bytes, as text, with digests and as JSON, of a damaged fork too."""
+    marks = {("ICON", 1): 1024, ("STR ", 4): 1024}
+    lines = [line + (f" compressed:{marks[row.kind.decode(), row.ident]}" if (row.kind.decode(), row.ident) in marks else "") for row, line in zip(rows, listing(rows).splitlines())]
+    text = "".join(f"{line}\n" for line in lines).encode()
+    compare("ls", run(program, ["ls", path]), 0, text, "")
+    compare("ls -", whole(program, path, ["ls", "-"]), 0, text, "")
+    compare("ls -t", run(program, ["ls", "-t", "STR", path]), 0, b"".join(text.splitlines(True)[3:]), "")
+    digests = "".join(f"{line} {hashlib.sha256(row.data).hexdigest()}\n" for row, line in zip(rows, lines)).encode()
+    compare("ls --sha256", run(program, ["ls", "--sha256", path]), 0, digests, "")
+    compare("salvage", run(program, ["salvage", path]), 0, text, "")
+    for words in ([], ["--data", "base64"], ["--sha256"]):
+        status, line, told = run(program, ["ls", "--json", *words, path])
+        found = [{name: it[name] for name in ("compressed", "unpacked") if name in it} for it in json.loads(line)["resources"]]
+        wanted = [{"compressed": True, "unpacked": marks[row.kind.decode(), row.ident]} if (row.kind.decode(), row.ident) in marks else {} for row in rows]
+        must((status, told, found) == (0, "", wanted), f"ls --json {words} says {found}")
+
+
+def try_compressed(program, path, out):
+    """Compares what is shown of compressed resources, and of those that only look so: without bit 0, without the signature, and too short."""
+    rows = [Row(b"ICON", 1, None, 1, PACKED), Row(b"ICON", 2, None, 0, PACKED), Row(b"ICON", 3, None, 1, b"\xa9" + PACKED[1:])]
+    rows += [Row(b"STR ", 4, None, 1, PACKED), Row(b"STR ", 5, None, 1, PACKED[:11]), Row(b"STR ", 6, None, 1, b"\1a")]
+    write(path, fork_of(rows))
+    for words in (["ICON", "1"], ["ICON", "1", "--as", "png"], ["ICON", "1", "--as", "text"], ["STR ", "4"], ["ICON", "1", "-o", out]):
+        compare(f"show {words}", run(program, ["show", path, *words]), 2, b"", f"{path}: {TOLD}")
+    must(not os.path.exists(out), "a compressed resource is refused, and a file is written")
+    for ident in ("2", "3"):
+        status, png, told = run(program, ["show", path, "ICON", ident])
+        must((status, told) == (0, "") and png.startswith(b"\x89PNG"), f"ICON {ident}, which isn't compressed, isn't shown as a picture")
+    status, digits, told = run(program, ["show", path, "ICON", "1", "--as", "hex"])
+    must((status, told) == (0, "") and digits.startswith(b"000000  A8 9F 65 72 "), "a compressed resource isn't shown in digits")
+    compare("get", run(program, ["get", path, "ICON", "1"]), 0, PACKED, "")
+    try_compressed_lists(program, path, rows)
+    short = "000000  A8 9F 65 72 00 12 08 01 00 00 04" + " " * 17
+    listed = f"STR  4\n{TOLD}\nSTR  5\n{short}"
+    status, shown, told = run(program, ["show", path, "STR "])
+    must((status, told) == (0, "") and shown.decode().startswith(listed) and shown.endswith(b"\nSTR  6\na\n"), f"compressed resources among others are shown as {shown!r}")
+    status, shown, told = run(program, ["show", path, "STR ", "--as", "text"])
+    must((status, shown) == (2, b"STR  6\na\n") and f"{path}: STR  4: {TOLD}\n" in told, f"compressed resources among others are shown as {shown!r}, and {told!r}")
+
+
 def write(path, data):
     with open(path, "wb") as file:
         file.write(data)
@@ -260,6 +308,7 @@ def main(resfork, number=60):
                 compare(" ".join(words), run(resfork, words), status, b"", told)
             try_forms(resfork, path, os.path.join(top, "form"))
             try_short(resfork, path)
+            try_compressed(resfork, path, os.path.join(top, "icon.png"))
             tried = try_folders(resfork, path, top, number)
             try_containers(resfork, path, os.path.join(top, "container"), b"abc")
             try_failure(resfork, path, os.path.join(top, "closed"))

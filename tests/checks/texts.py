@@ -120,7 +120,10 @@ def try_texts(program, folder):
     write(text, fork_of([ROW]))
     compare("get -o -", run(program, ["get", text, "STR ", "-128", "-o", "-"]), 0, ROW.data, "")
     compare("derez", run(program, ["derez", text]), 0, COMMENT + TEXT, "")
-    compare("derez -t none", run(program, ["derez", "-t", "none", text]), 0, COMMENT, "")
+    for kinds in (["-t", "none"], ["-t", "STR", "-t", "none"]):
+        compare(f"derez {kinds}", run(program, ["derez", *kinds, text]), 1, b"", f"{text}: there is no resource of the type none")
+        compare(f"unpack {kinds}", run(program, ["unpack", *kinds, text, out]), 1, b"", f"{text}: there is no resource of the type none")
+        must(not os.path.exists(out), f"unpack {kinds}: it is refused, and a folder is made")
 
 
 # files that the manifest doesn't name, by their paths, and their rows; and those that --add refuses, with words of what is said

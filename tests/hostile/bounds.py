@@ -148,6 +148,35 @@ def overlaps(bench):
             yield f"salvage of a fork {what} obeys the bound", took.says(0, 3) or (None if len(shown) <= most else f"{len(shown)} rows, and {most} are allowed")
 
 
+def sharing(count, length, more=0):
+    """A fork of so many resources of one type that share one datum of so many bytes, with some bytes of no resource after it."""
+    data = struct.pack(">I", length) + bytes(length + more)
+    references = b"".join(struct.pack(">hHI4x", it, 0xFFFF, 0) for it in range(count))
+    the_map = bytes(24) + struct.pack(">2H", 28, 38 + 12 * count) + struct.pack(">H4s2H", 0, b"TEXT", count - 1, 10) + references
+    header = struct.pack(">4I", 256, 256 + len(data), len(data), len(the_map))
+    return header + bytes(240) + data + the_map
+
+
+def shared_data(bench):
+    """Resources that share bytes: they have together no more than the data, or 4,194,304; so each command ends within 1 s and takes less than 64 MB."""
+    most = 4194304
+    limits = Limits(bench, 1, 64 * MB)
+    for count, length, more in ((256, 1000000, 0), (1000, 4190, 0), (4, most // 4 - 4, 0)):
+        fork = sharing(count, length, more)
+        for words in every_command():
+            yield f"{' '.join(words)}, a fork of {count} resources that share {length} bytes", limits.fault_of(words, lambda folder, fork=fork: write(fork, folder, "f"))
+    # as many as macheap reads, one byte more, as many as the data has, and one byte more
+    for count, length, more, is_read in ((4, most // 4 - 4, 0, True), (4, most // 4 - 3, 0, False), (2, most - 4, most - 4, True), (2, most - 4, most - 5, False)):
+        fork = sharing(count, length, more)
+        with room() as folder:
+            write(fork, folder, "f")
+            for words in (["ls", "f"], ["ls", "--json", "f"], ["check", "f"]):
+                took = bench.run(words, folder)
+                lines = took.output.count(b"\n") == count or words != ["ls", "f"]
+                fault = took.says(0) or (None if lines else "it doesn't list them") if is_read else took.says(3)
+                yield f"{' '.join(words)} of {count} resources that share {length} bytes, in {length + 4 + more} bytes of data", fault
+
+
 def rows_bound(bench):
     """A map of so many bytes may have as many rows as twelfths, and not one more; lists that don't overlap are always read."""
     for count in (4, 20, 300):
@@ -298,6 +327,7 @@ def squares(bench):
 
 def rows(bench):
     yield from rows_bound(bench)
+    yield from shared_data(bench)
     yield from limit_words(bench)
     if why := bench.cannot_be_bounded():
         yield "what files make a program take", why

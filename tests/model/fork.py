@@ -8,7 +8,7 @@ import struct
 MOST_BYTES = 4194304
 MOST_ROWS = 8192
 # the most bytes of a fork, the most rows, the most bytes of all rows, and how many bytes of the map there must be for each row: for macheap,
-# and for resfork, which reads what the format can say
+# and for resfork, which reads what the format can say; there rows that share bytes have no more than the data, or than macheap reads
 MACHEAP = (MOST_BYTES, MOST_ROWS, MOST_BYTES, 0)
 FORMAT = (4294967295, 4194304, 268435456, 12)
 WORDS = [(128, "bit7"), (64, "sysHeap"), (32, "purgeable"), (16, "locked"), (8, "protected"), (4, "preload"), (2, "changed"), (1, "bit0")]
@@ -38,7 +38,7 @@ MESSAGES = {
     "rows": r"there are \d+ resources in a map of \d+ bytes, and at most \d+ are read",
     "names": ROW.format("its name with its byte of length has", "map"),
     "places": ROW.format("(?:the bytes of its length are|its length is)", "data"),
-    "bytes": ROW.format("the bytes of the resources up to it are", "268435456 that are read"),
+    "bytes": r"'.*' -?\d+: the bytes of the resources up to it are \d+, and at most \d+ are read of such data\n  at \$[0-9A-F]{6,}, reached from the reference at \$[0-9A-F]{6,}",
 }
 MESSAGES = {condition: re.compile(told) for condition, told in MESSAGES.items()}
 
@@ -101,6 +101,8 @@ def read_fork(fork, limits=MACHEAP):
         length = int.from_bytes(data[row.data : row.data + 4], "big")
         must(row.data + 4 + length <= data_length, "places")
         row.data = data[row.data + 4 : row.data + 4 + length]
+    if map_each:
+        most_together = min(most_together, max(MOST_BYTES, data_length))
     must(sum(4 + len(row.data) for row in rows) <= most_together, "bytes")
     return rows
 

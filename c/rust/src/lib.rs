@@ -5,7 +5,7 @@ pub mod sys;
 
 use std::marker::PhantomData;
 use std::{error, fmt, ptr, slice};
-use sys::{MH_NO_ASLEEP, MH_NO_ZONE, MhAnswer, MhAsk, MhAsleep, MhBlock, MhCarried, MhFault, MhMemory, MhWindow, MhWritten, MhZone};
+use sys::{MH_NO_ASLEEP, MH_NO_ZONE, MhAnswer, MhAsk, MhAsleep, MhBlock, MhCarried, MhFault, MhMemory, MhWindow, MhWritten, MhWrong, MhZone};
 
 /// The code of a call that was refused, which has changed nothing else.
 #[derive(Clone, Copy, Debug, PartialEq, Eq)]
@@ -76,6 +76,16 @@ impl Zone<'_> {
 
     pub fn image(&mut self, bytes: &mut [u8]) -> Result<()> {
         told(unsafe { sys::mh_image(&mut self.0, bytes.as_mut_ptr(), bytes.len()) })
+    }
+
+    /// Lets a zone of `Asleep::wake` sleep again. How many ranges of its bytes, the first of these, were written since it woke.
+    pub fn sleep_wrote(mut self, ranges: &mut [MhWritten]) -> Result<usize> {
+        let mut gone = MhMemory { start: ptr::null_mut(), length: 0, here: false };
+        let mut written = 0;
+        let asleep = self.1.as_mut().ok_or(OsErr(sys::MH_PARAM_ERR))?;
+        let (at, count) = (ranges.as_mut_ptr(), ranges.len());
+        told(unsafe { sys::mh_sleep_wrote(&mut self.0, asleep, &mut gone, at, count, &mut written) })?;
+        Ok(written)
     }
 
     /// The bytes of a lent block. No call is made on the zone while they are held.
@@ -164,6 +174,23 @@ impl Asleep {
 impl Drop for Asleep {
     fn drop(&mut self) {
         unsafe { sys::mh_end_asleep(&mut self.0) };
+    }
+}
+
+/// Looks at memory from the start of a zone on, whoever made that: its blocks, up to the first thing that is wrong, and that.
+pub fn look(bytes: &[u8], base: u32, mode: u32) -> Result<(Vec<MhBlock>, Option<MhWrong>)> {
+    let (mut blocks, mut count, mut wrong) = (Vec::new(), 0, MhWrong::default());
+    loop {
+        let (from, length, room) = (bytes.as_ptr(), bytes.len(), blocks.len());
+        let code = unsafe { sys::mh_look(from, length, base, mode, blocks.as_mut_ptr(), room, &mut count, &mut wrong) };
+        let is_damaged = code == sys::MH_DAMAGED;
+        if !is_damaged {
+            told(code)?;
+        }
+        if count == room {
+            return Ok((blocks, is_damaged.then_some(wrong)));
+        }
+        blocks.resize(count, MhBlock::default());
     }
 }
 

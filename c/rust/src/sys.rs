@@ -136,6 +136,16 @@ pub struct MrInfo {
     pub name_length: u32,
 }
 
+/// What is wrong with a zone that is looked at.
+#[repr(C)]
+#[derive(Clone, Copy, Debug, Default, PartialEq, Eq)]
+pub struct MhWrong {
+    pub problem: u32,
+    pub place: u32,
+    pub found: u32,
+    pub wanted: u32,
+}
+
 /// Bytes of a zone, so many from an offset from its start on.
 #[repr(C)]
 #[derive(Clone, Copy, Debug, Default)]
@@ -152,8 +162,10 @@ unsafe extern "C" {
     pub fn mh_attach(asleep: &mut MhAsleep, memory: &mut MhMemory, base: u32, size: u32, limit: u32, mode: u32) -> i16;
     pub fn mh_wake(zone: &mut MhZone, asleep: &mut MhAsleep, memory: &mut MhMemory) -> i16;
     pub fn mh_wake_written(zone: &mut MhZone, asleep: &mut MhAsleep, memory: &mut MhMemory, written: *const MhWritten, count: usize) -> i16;
+    pub fn mh_sleep_wrote(zone: &mut MhZone, asleep: &mut MhAsleep, memory: &mut MhMemory, ranges: *mut MhWritten, count: usize, written: &mut usize) -> i16;
     pub fn mh_sleep(zone: &mut MhZone, asleep: &mut MhAsleep, memory: &mut MhMemory) -> i16;
     pub fn mh_check(asleep: &mut MhAsleep, memory: &mut MhMemory, fault: &mut MhFault) -> i16;
+    pub fn mh_look(bytes: *const u8, length: usize, base: u32, mode: u32, blocks: *mut MhBlock, room: usize, count: &mut usize, wrong: &mut MhWrong) -> i16;
     pub fn mh_repair(asleep: &mut MhAsleep, memory: &mut MhMemory) -> i16;
     pub fn mh_end_asleep(asleep: &mut MhAsleep) -> i16;
     pub fn mh_peek(zone: &mut MhZone, block: u32, offset: u32, bytes: *mut u8, count: usize) -> i16;

@@ -25,7 +25,7 @@ use Rattle.block_bytes.specs.Reading.{times}
 use Rattle.block_bytes.proofs.Walking.{is_possible-from}
 
 -- headers and least blocks are small
-pub sizes-small : (heads : HeadKind) → (head_size heads ≤ 900) × (smallest_block heads ≤ 900)
+pub sizes-small : (heads : HeadKind) → (head_size heads ≤ 400) × (smallest_block heads ≤ 400)
 sizes-small Bits24 = (omega arith, omega arith)
 sizes-small Bits32 = (omega arith, omega arith)
 

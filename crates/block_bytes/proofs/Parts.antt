@@ -9,7 +9,8 @@ use Rattle.mac_base.specs.HeadKind.{zone_header, address_end}
 use Rattle.mac_base.specs.ZoneSizes.{ArePossible}
 use Rattle.mac_base.proofs.Reach.{end-small}
 use Rattle.raw_region.specs.Bytes.{part}
-use Rattle.raw_region.specs.State.{Name, State}
+use Rattle.mac_base.specs.ZoneState.{Name}
+use Rattle.raw_region.specs.State.{State}
 use Rattle.block_bytes.specs.declared.blocks.Blocks.TheInside.{Inside}
 use Rattle.block_bytes.specs.Head.{head_bytes}
 use Rattle.block_bytes.specs.ZoneHead.{front_field}

@@ -1,6 +1,6 @@
 -- A new zone before anything is placed.
 use Rattle.std.specs.Prelude.{◌-◌, [], ◌∷◌, replicate}
-use Rattle.raw_region.specs.State.{Name}
+use Rattle.mac_base.specs.ZoneState.{Name}
 use Rattle.mac_base.specs.HeadKind.{zone_header, head_size}
 use Rattle.mac_base.specs.ZoneSizes.{ZoneSizes}
 use Rattle.mac_base.specs.ZoneState.{own_memory}

@@ -7,7 +7,8 @@ use Rattle.mac_base.specs.HeadKind.{head_size, zone_header}
 use Rattle.mac_base.specs.ZoneSizes.{ZoneSizes}
 use Rattle.raw_region.specs.Bytes.{part}
 use Rattle.raw_region.specs.Span.{Span}
-use Rattle.raw_region.specs.State.{Name, State}
+use Rattle.mac_base.specs.ZoneState.{Name}
+use Rattle.raw_region.specs.State.{State}
 use Rattle.block_bytes.specs.declared.header.Header.{Header}
 use Rattle.block_bytes.specs.declared.blocks.Blocks.TheInside.{Inside}
 use Rattle.block_bytes.specs.Head.{header_in}

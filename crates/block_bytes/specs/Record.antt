@@ -2,7 +2,7 @@
 use Rattle.std.specs.Prelude.{◌≡◌, ℕ, ◌+◌, ◌≤◌, ◌<◌, ◌⊎◌, true, false, IsTrue, List, [], ◌∷◌, length, take, slice_index, Option, Some, None, option_map, ⊤, if◌then◌else◌}
 use Rattle.mac_base.specs.declared.block.HeadKind.{HeadKind}
 use Rattle.mac_base.specs.HeadKind.{head_size, zone_header}
-use Rattle.raw_region.specs.State.{Name}
+use Rattle.mac_base.specs.ZoneState.{Name}
 use Rattle.block_bytes.specs.declared.header.Header.{Header}
 use Rattle.block_bytes.specs.declared.record.Range.{Range}
 use Rattle.block_bytes.specs.declared.record.Changed.{Changed}

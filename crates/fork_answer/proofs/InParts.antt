@@ -10,10 +10,11 @@ use Rattle.fork_bytes.specs.Fork.{bytes_at, format_limits}
 use Rattle.fork_disk.specs.declared.store.ForkStore.{Ghosts}
 use Rattle.fork_disk.specs.Disk.{Rose}
 use Rattle.fork_list.specs.declared.find.Wanted.{Wanted}
+use Rattle.fork_list.specs.Compressed.{has_marked, unpacked_length}
 use Rattle.fork_list.specs.Find.{is_wanted}
 use Rattle.fork_list.specs.Listing.{listing}
 use Rattle.fork_list.specs.Types.{type_lines}
-use Rattle.fork_list.proofs.Placed.{place_size, listing_at, type_lines_at, wanted_at}
+use Rattle.fork_list.proofs.Placed.{place_size, place_unpacked, listing_at, type_lines_at, wanted_at}
 use Rattle.fork_bytes.specs.Reading.{PlacedRow, IsWithin, row_at}
 use Rattle.fork_rows.specs.Opening.{OpensAsWithin, Reads, filled}
 use Rattle.fork_rows.specs.declared.fault.OpenFault.TheVariants.{Fork}
@@ -31,7 +32,7 @@ use Rattle.mac_files.specs.OldFiles.{fork_said, read_as}
 use Rattle.mac_files.proofs.Alone.{alone_fork}
 use Rattle.mac_files.proofs.Known.{raw}
 use Rattle.fork_answer.specs.Answer.{Answers, IsAsked, Shows, Writes, wanted_row}
-use Rattle.fork_answer.specs.InParts.{HasRows, IsForkWith, IsNoForkWith, IsNotRaw, IsReadAs, Never, ShowsRows}
+use Rattle.fork_answer.specs.InParts.{HasRows, IsForkWith, IsNoForkWith, IsReadAs, IsReadWhole, Never, ShowsRows}
 use Rattle.fork_answer.specs.Source.{IsForkIn}
 use Rattle.fork_answer.specs.declared.answer.Failure.{Failure}
 use Rattle.fork_answer.specs.declared.answer.Failure.TheVariants as failure
@@ -144,10 +145,10 @@ pub writes_same : {T : Type 0} (text other : List ℕ) (old new : Option (List �
 writes_same {T} text other old new result same wrote = let P : List ℕ → Type 0 = λ bytes. Writes bytes old new result in subst P same wrote
 
 -- the list and that of types, of rows with places
-list_shows : {T : Type 0} (file : List ℕ) (choice : Choice) (rows : List PlacedRow) (old new : Option (List ℕ)) (result : Result T Failure) → AllByRecursion (IsWithin file) rows
-    → Writes (listing place_size choice.letters choice.kinds.items rows) old new result → ShowsRows (request.List choice) rows old new file result
-list_shows file choice rows old new result within wrote table has =
-    let same = ap (listing length choice.letters choice.kinds.items) has ∙ listing_at file choice.letters choice.kinds.items rows within in
+list_shows : {T : Type 0} (file : List ℕ) (choice : Choice) (rows : List PlacedRow) (old new : Option (List ℕ)) (result : Result T Failure) → AllByRecursion (IsWithin file) rows → has_marked rows ≡ false
+    → Writes (listing place_size place_unpacked choice.letters choice.kinds.items rows) old new result → ShowsRows (request.List choice) rows old new file result
+list_shows file choice rows old new result within plain wrote table has =
+    let same = ap (listing length unpacked_length choice.letters choice.kinds.items) has ∙ listing_at file choice.letters choice.kinds.items rows within plain in
     shows (request.List choice) table _ old new result (sym same) wrote
 
 types_show : {T : Type 0} (file : List ℕ) (choice : Choice) (rows : List PlacedRow) (old new : Option (List ℕ)) (result : Result T Failure)
@@ -158,11 +159,20 @@ types_show file choice rows old new result wrote table has =
 
 -- what was asked for is a list, or a list of types
 pub list_answers : {T : Type 0} (file : List ℕ) (rows listed : List PlacedRow) (asked : Request) (choice : Choice) (old new : Option (List ℕ)) (result : Result T Failure)
-    → IsForkWith file rows → asked ≡ request.List choice → listed ≡ rows → Writes (listing place_size choice.letters choice.kinds.items listed) old new result → Answers asked file old new result
-list_answers file rows listed asked choice old new result is asks same wrote =
+    → IsForkWith file rows → asked ≡ request.List choice → listed ≡ rows → has_marked listed ≡ false
+    → Writes (listing place_size place_unpacked choice.letters choice.kinds.items listed) old new result → Answers asked file old new result
+list_answers file rows listed asked choice old new result is asks same plain wrote =
     let P : Request → Type 0 = λ other. Answers other file old new result in
-    let text = writes_same _ _ old new result (ap (listing place_size choice.letters choice.kinds.items) same) wrote in
-    subst P (sym asks) (answers file rows (request.List choice) old new result is (list_shows file choice rows old new result is.within text))
+    let text = writes_same _ _ old new result (ap (listing place_size place_unpacked choice.letters choice.kinds.items) same) wrote in
+    let none = ap (λ (all : List PlacedRow). has_marked all) (sym same) ∙ plain in
+    subst P (sym asks) (answers file rows (request.List choice) old new result is (list_shows file choice rows old new result is.within none text))
+
+-- all of the file has to be read for a list in which a resource may be compressed
+pub list_left : (file : List ℕ) (rows listed : List PlacedRow) (asked : Request) (choice : Choice)
+    → IsForkWith file rows → asked ≡ request.List choice → listed ≡ rows → has_marked listed ≡ true → IsReadWhole asked file
+list_left file rows listed asked choice is asks same marked =
+    let P : Request → Type 0 = λ other. IsReadWhole other file in
+    subst P (sym asks) (inr (rows, is, ap (λ (all : List PlacedRow). has_marked all) (sym same) ∙ marked))
 
 pub types_answer : {T : Type 0} (file : List ℕ) (rows listed : List PlacedRow) (asked : Request) (choice : Choice) (old new : Option (List ℕ)) (result : Result T Failure)
     → IsForkWith file rows → asked ≡ request.Types choice → listed ≡ rows → Writes (type_lines choice.letters choice.kinds.items listed None listed) old new result → Answers asked file old new result
@@ -174,7 +184,7 @@ types_answer file rows listed asked choice old new result is asks same wrote =
 -- or a resource, of which nothing is said where a read failed
 pub get_answers : {T : Type 0} (file : List ℕ) (rows listed : List PlacedRow) (asked : Request) (wanted : Wanted) (old new : Option (List ℕ)) (start middle last : ℕ) (shown : Option (Result T Failure))
     → middle ≡ start → IsForkWith file rows → asked ≡ request.Get wanted → listed ≡ rows → MatchOption shown (Never file ⊎ Rose middle last) (ShowsRows (request.Get wanted) listed old new file)
-    → MatchOption shown (IsNotRaw file ⊎ Rose start last) (Answers asked file old new)
+    → MatchOption shown (IsReadWhole asked file ⊎ Rose start last) (Answers asked file old new)
 get_answers file rows listed asked wanted old new start middle last None calm is asks same (inl never) = absurd never
 get_answers file rows listed asked wanted old new start middle last None calm is asks same (inr rose) = let P : ℕ → Type 0 = λ n. Rose n last in inr (subst P calm rose)
 get_answers file rows listed asked wanted old new start middle last (Some result) calm is asks same shows =

@@ -7,6 +7,7 @@ use Rattle.fork_bytes.specs.declared.table.Table.{Table}
 use Rattle.fork_bytes.specs.Rows.{Row}
 use Rattle.mac_base.specs.declared.resource.Resource.{Resource}
 use Rattle.fork_bytes.specs.Fork.{StandsForWithin, RefusesWithin, format_limits}
+use Rattle.fork_list.specs.Compressed.{unpacked_length}
 use Rattle.fork_list.specs.Listing.{listing}
 use Rattle.fork_list.specs.Types.{type_lines}
 use Rattle.fork_list.specs.Find.{is_wanted}
@@ -37,7 +38,7 @@ wanted_row wanted rows = slice_get (filter (is_wanted wanted) rows) wanted.nth
 
 -- the text is what is asked for of the table: its list, that of its types, or the bytes of a resource
 abbrev pub IsAsked : Request → Table → List ℕ → Type 0
-IsAsked (request.List choice) table text = text ≡ listing length choice.letters choice.kinds.items table.rows
+IsAsked (request.List choice) table text = text ≡ listing length unpacked_length choice.letters choice.kinds.items table.rows
 IsAsked (request.Types choice) table text = text ≡ type_lines choice.letters choice.kinds.items table.rows None table.rows
 IsAsked (request.Get wanted) table text = (row : Row) × (wanted_row wanted table.rows ≡ Some row) × (text ≡ row.datum)
 

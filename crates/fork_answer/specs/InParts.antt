@@ -1,5 +1,5 @@
 -- A file that is a resource fork, of which only some parts are read.
-use Rattle.std.specs.Prelude.{◌≡◌, ◌≢◌, ◌⊎◌, ℕ, false, List, [], map, Option, MatchOption, Result, MatchResult}
+use Rattle.std.specs.Prelude.{◌≡◌, ◌≢◌, ◌⊎◌, ℕ, true, false, List, [], map, Option, MatchOption, Result, MatchResult}
 use Rattle.std.specs.List.{AllByRecursion}
 use Rattle.fork_bytes.specs.declared.fault.ForkFault.{ForkFault}
 use Rattle.fork_bytes.specs.declared.table.Table.{Table}
@@ -11,6 +11,8 @@ use Rattle.fork_rows.specs.Opening.{Reads}
 use Rattle.mac_files.specs.Containers.{is_raw}
 use Rattle.fork_answer.specs.declared.answer.Failure.{Failure}
 use Rattle.fork_answer.specs.declared.request.Request.{Request}
+use Rattle.fork_answer.specs.declared.request.Request.TheVariants as request
+use Rattle.fork_list.specs.Compressed.{has_marked}
 use Rattle.fork_answer.specs.Answer.{Shows}
 use Rattle.fork_answer.specs.Source.{IsForkIn}
 
@@ -41,6 +43,16 @@ IsReadAs file result = MatchResult result (IsForkWith file) (IsNoForkWith file)
 -- the file isn't known as a resource fork and nothing else
 abbrev pub IsNotRaw : List ℕ → Type 0
 IsNotRaw file = is_raw file ≡ false
+
+-- the list of a fork is asked for in which a resource may be compressed: its bytes say how many it has unpacked
+abbrev pub ListsMarked : Request → List ℕ → Type 0
+ListsMarked (request.List choice) file = (rows : List PlacedRow) × IsForkWith file rows × (has_marked rows ≡ true)
+ListsMarked (request.Types choice) file = ⊥
+ListsMarked (request.Get wanted) file = ⊥
+
+-- all of a file has to be read
+abbrev pub IsReadWhole : Request → List ℕ → Type 0
+IsReadWhole asked file = IsNotRaw file ⊎ ListsMarked asked file
 
 -- no file
 abbrev pub Never : List ℕ → Type 0

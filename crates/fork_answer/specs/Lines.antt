@@ -3,6 +3,7 @@ use Rattle.std.specs.Prelude.{ℕ, ℤ, ◌^◌, ◌-◌, true, false, List, [],
 use Rattle.std.specs.List.{flat_map}
 use Rattle.std.specs.Fmt.{decimal, digits, format_spec, padded_integral, styled_decimal, styled_signed_decimal}
 use Rattle.fork_list.specs.declared.letters.Letters.{Letters}
+use Rattle.fork_list.specs.Compressed.{unpacked_length}
 use Rattle.fork_list.specs.Listing.{cells_text, kind_text}
 use Rattle.fork_salvage.specs.declared.place.Gap.{Gap}
 use Rattle.fork_salvage.specs.declared.place.Span.{Span}
@@ -14,7 +15,7 @@ use Rattle.fork_salvage.specs.declared.reference.Loss.{Loss}
 use Rattle.fork_salvage.specs.declared.reference.Loss.TheVariants as loss
 use Rattle.fork_salvage.specs.declared.salvage.Item.{Item}
 use Rattle.fork_salvage.specs.declared.salvage.Item.TheVariants as item
-use Rattle.fork_salvage.specs.Salvage.{items}
+use Rattle.fork_salvage.specs.Salvage.{items, part}
 use Rattle.fork_salvage.specs.Laws.{name_shown}
 
 -- a place in a fork: a dollar sign, and six hexadecimal digits or more
@@ -45,7 +46,7 @@ name_line (Outside place) = codes "  its name, at " ++ (place_text place ++ code
 -- the line of a resource that can be read, as a list shows it
 abbrev pub found_line : Letters → List ℕ → FoundRow → List ℕ
 found_line letters fork found =
-    cells_text letters found.kind found.id found.bytes.length found.attributes (name_shown fork found.name) ++ (10 ∷ name_line found.name)
+    cells_text letters found.kind found.id found.bytes.length found.attributes (name_shown fork found.name) (unpacked_length found.attributes.0 (part fork found.bytes)) ++ (10 ∷ name_line found.name)
 
 -- the line of one that can't be read
 abbrev pub lost_line : Letters → LostRow → List ℕ

@@ -146,7 +146,7 @@ pub(crate) fn list<D: HasSize, W: Write>(
     rows: &[Resource<D>],
     output: &mut W,
 ) -> Result<(), Failure>
-    ensures writes { Writes (listing D.size choice.now.letters choice.now.kinds.items rows.now) (W.contents output.old) (W.contents output.new) result }
+    ensures writes { Writes (listing D.size D.unpacked choice.now.letters choice.now.kinds.items rows.now) (W.contents output.old) (W.contents output.new) result }
     ensures quiet { IfErr result (λ failure. IsQuiet failure → output.new ≡ output.old) }
 {
     let kinds = choice.kinds.as_slice();

@@ -4,7 +4,7 @@ ghost use Rattle.std.specs.Prelude.{◌≡◌, Some, IfOk, string_bytes};
 ghost use Rattle.fork_answer.specs.Lines.{place_text, gap_text, loss_text, id_text, name_line, item_line, salvage_listing};
 
 use fork_list::letters::Letters;
-use fork_list::{KindText, RowText};
+use fork_list::{KindText, RowText, unpacked_length};
 use fork_salvage::{FoundName, Gap, Item, Loss, Salvage, Span};
 use std::alloc::{AllocError, Global};
 use std::fmt;
@@ -109,6 +109,7 @@ impl fmt::Display for ItemLine<'_> {
                     count: found.bytes.length,
                     attributes: found.attributes,
                     name: found.name.of(self.fork),
+                    unpacked: unpacked_length(found.attributes, found.bytes.of(self.fork)),
                 };
                 let name = NameLine(found.name);
                 write!(f, "{row}\n{name}")

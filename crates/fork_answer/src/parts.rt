@@ -6,7 +6,7 @@ ghost use Rattle.fork_bytes.specs.Reading.{IsWithin};
 ghost use Rattle.fork_rows.specs.Opening.{IsReadyWith};
 ghost use Rattle.mac_files.specs.Containers.{is_raw};
 ghost use Rattle.fork_answer.specs.Answer.{Answers, IsQuiet};
-ghost use Rattle.fork_answer.specs.InParts.{IsNotRaw, IsReadAs, IsReady, Never, ShowsRows, TellsInParts};
+ghost use Rattle.fork_answer.specs.InParts.{IsNotRaw, IsReadAs, IsReadWhole, IsReady, Never, ShowsRows, TellsInParts};
 
 use crate::answer::{Failure, list, list_types, write};
 use crate::request::Request;
@@ -15,6 +15,7 @@ use fork_bytes::layout::Limits;
 use fork_bytes::place::PlacedRow;
 use fork_disk::store::ForkStore;
 use fork_list::find::{Wanted, find_row};
+use fork_list::has_marked;
 use fork_rows::fault::OpenFault;
 use fork_rows::table::PlacedRows;
 use fork_rows::{read_part, read_rows_within};
@@ -91,7 +92,8 @@ fn get_part<S: ForkStore, W: Write>(
 
 /// Writes what is asked for of a file that is a resource fork and nothing else, as `answer` does: of the file are read
 /// its first 256 bytes, the map, four bytes for each resource, and the bytes that are written. None, and nothing is
-/// written, where the file isn't known as such a fork, and where the device fails.
+/// written, where the file isn't known as such a fork, where a resource of a list may be compressed, so that its bytes
+/// have to be read, and where the device fails.
 pub fn answer_in_parts<S: ForkStore, W: Write>(
     alloc: Global,
     request: &Request,
@@ -100,7 +102,7 @@ pub fn answer_in_parts<S: ForkStore, W: Write>(
 ) -> Option<Result<(), Failure>>
     requires { IsReady S.ForkStore store.old }
     ensures answer { TellsInParts S.ForkStore store.old store.new
-        (λ file. Answers request.now file (W.contents output.old) (W.contents output.new)) IsNotRaw result }
+        (λ file. Answers request.now file (W.contents output.old) (W.contents output.new)) (IsReadWhole request.now) result }
     ensures cause { IfSome result (λ _. S.failures store.new ≡ S.failures store.old) }
     ensures none { IfNone result (output.new ≡ output.old) }
     ensures quiet { IfSome result (λ shown. IfErr shown (λ failure. IsQuiet failure → output.new ≡ output.old)) }
@@ -111,7 +113,12 @@ pub fn answer_in_parts<S: ForkStore, W: Write>(
     };
     let rows = placed.as_slice();
     match request {
-        Request::List(choice) => Some(list(alloc, choice, rows, output)),
+        Request::List(choice) => {
+            if has_marked(rows) {
+                return None;
+            }
+            Some(list(alloc, choice, rows, output))
+        }
         Request::Types(choice) => Some(list_types(alloc, choice, rows, output)),
         Request::Get(wanted) => get_part(alloc, wanted, store, rows, output),
     }

@@ -10,7 +10,7 @@ use Rattle.byteorder.specs.Numbers.{big_from-take}
 use Rattle.fork_bytes.specs.declared.layout.Header.{Header}
 use Rattle.fork_bytes.specs.declared.layout.Limits.{Limits}
 use Rattle.fork_bytes.specs.Rows.{Row, MapRow}
-use Rattle.fork_bytes.specs.Fork.{number_at, bytes_at, header_of, data_of, datum_length, row_with, HasData, HasFewBytesWithin}
+use Rattle.fork_bytes.specs.Fork.{number_at, bytes_at, header_of, data_of, datum_length, row_with, most_bytes, HasData, HasFewBytesWithin}
 use Rattle.fork_bytes.specs.Reading.{PlacedRow, placed, placed_row, row_at, HasDatum, IsWithin, AreFewBytesWithin}
 
 -- the bytes from an offset in a part on are those of the whole from both offsets on
@@ -88,15 +88,24 @@ sum_of_places fork (row ∷ rows) =
     ∙ ap (λ (n : ℕ). 4 + datum_length (data_of fork) row.datum + n) (sum_of_places fork rows)
     ∙ sym (sum_by-cons (λ (r : MapRow). 4 + datum_length (data_of fork) r.datum) row rows)
 
-pub few_from_placed : (limits : Limits) (fork : List ℕ) (rows : List MapRow) → AreFewBytesWithin limits (map (placed_row fork) rows) → HasFewBytesWithin limits (data_of fork) rows
-few_from_placed limits fork rows few = let P : ℕ → Type 0 = λ n. n ≤ limits.bytes in subst P (sum_of_places fork rows) few
+-- how many bytes they may have, by what a header says of the data
+pub most_by_header : (limits : Limits) (fork : List ℕ) (header : Header) → header ≡ header_of fork → HasWholeData fork header →
+    most_bytes limits header.data_length ≡ most_bytes limits (length (data_of fork))
+most_by_header limits fork header is whole =
+    let P : Header → Type 0 = HasWholeData fork in
+    ap (λ (h : Header). most_bytes limits h.data_length) is ∙ ap (most_bytes limits) (sym (length-data fork (subst P is whole)))
 
-pub few_to_placed : (limits : Limits) (fork : List ℕ) (rows : List MapRow) → HasFewBytesWithin limits (data_of fork) rows → AreFewBytesWithin limits (map (placed_row fork) rows)
-few_to_placed limits fork rows few = let P : ℕ → Type 0 = λ n. n ≤ limits.bytes in subst P (sym (sum_of_places fork rows)) few
+pub few_from_placed : (limits : Limits) (fork : List ℕ) (rows : List MapRow) (most : ℕ) → most ≡ most_bytes limits (length (data_of fork)) →
+    AreFewBytesWithin most (map (placed_row fork) rows) → HasFewBytesWithin limits (data_of fork) rows
+few_from_placed limits fork rows most same few = let sum = sum_of_places fork rows in omega arith
 
--- rows with their bytes have not too many, with four of length for each
-abbrev pub FewInRows : Limits → List Row → Type 0
-FewInRows limits rows = sum_by (λ (row : Row). 4 + length row.datum) rows ≤ limits.bytes
+pub few_to_placed : (limits : Limits) (fork : List ℕ) (rows : List MapRow) (most : ℕ) → most ≡ most_bytes limits (length (data_of fork)) →
+    HasFewBytesWithin limits (data_of fork) rows → AreFewBytesWithin most (map (placed_row fork) rows)
+few_to_placed limits fork rows most same few = let sum = sum_of_places fork rows in omega arith
+
+-- rows with their bytes have at most so many, with four of length for each
+abbrev pub FewInRows : ℕ → List Row → Type 0
+FewInRows most rows = sum_by (λ (row : Row). 4 + length row.datum) rows ≤ most
 
 -- rows with their bytes have as many as their lengths say
 sum_of_rows : (resource_data : List ℕ) (rows : List MapRow) → HasData resource_data rows →
@@ -111,11 +120,13 @@ sum_of_rows resource_data (row ∷ rows) has =
     ∙ ap (λ (k : ℕ). 4 + n + k) (sum_of_rows resource_data rows has.1)
     ∙ sym (sum_by-cons (λ (r : MapRow). 4 + datum_length resource_data r.datum) row rows)
 
-pub few_from_rows : (limits : Limits) (resource_data : List ℕ) (rows : List MapRow) → HasData resource_data rows → FewInRows limits (map (row_with resource_data) rows) → HasFewBytesWithin limits resource_data rows
-few_from_rows limits resource_data rows has few = let P : ℕ → Type 0 = λ n. n ≤ limits.bytes in subst P (sum_of_rows resource_data rows has) few
+pub few_from_rows : (limits : Limits) (resource_data : List ℕ) (rows : List MapRow) (most : ℕ) → most ≡ most_bytes limits (length resource_data) →
+    HasData resource_data rows → FewInRows most (map (row_with resource_data) rows) → HasFewBytesWithin limits resource_data rows
+few_from_rows limits resource_data rows most same has few = let sum = sum_of_rows resource_data rows has in omega arith
 
-pub few_to_rows : (limits : Limits) (resource_data : List ℕ) (rows : List MapRow) → HasData resource_data rows → HasFewBytesWithin limits resource_data rows → FewInRows limits (map (row_with resource_data) rows)
-few_to_rows limits resource_data rows has few = let P : ℕ → Type 0 = λ n. n ≤ limits.bytes in subst P (sym (sum_of_rows resource_data rows has)) few
+pub few_to_rows : (limits : Limits) (resource_data : List ℕ) (rows : List MapRow) (most : ℕ) → most ≡ most_bytes limits (length resource_data) →
+    HasData resource_data rows → HasFewBytesWithin limits resource_data rows → FewInRows most (map (row_with resource_data) rows)
+few_to_rows limits resource_data rows most same has few = let sum = sum_of_rows resource_data rows has in omega arith
 
 -- bytes with zeros after them, up to 240
 pub extra_is : (after front : List ℕ) (count : ℕ) → count ≡ min (length after) 240 → front ≡ take count after →

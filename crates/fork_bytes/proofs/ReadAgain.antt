@@ -14,7 +14,7 @@ use Rattle.fork_bytes.specs.Fork.{Reference, TypeEntry, macheap_limits, rows_by,
 use Rattle.fork_bytes.specs.Written.{types_of, counted_before, count_bytes, entries_text, types_text, first_references, names_offset, data_text, names_text, references_text, header_for, map_header_text, map_text, written, FitsWithin, IsSmallWithin}
 use Rattle.fork_bytes.specs.Laws.{IsRow, IsTable, IsReadAgain, IsReadAgainWithin, StandsForOne}
 use Rattle.fork_bytes.proofs.Lengths.{AreFour, length-entries, length-references, length-written}
-use Rattle.fork_bytes.proofs.Room.{few_by}
+use Rattle.fork_bytes.proofs.Room.{few_by, few_bytes_by}
 use Rattle.fork_bytes.proofs.Front.{IsSmall, header_is, extra_is, data_is, map_is, length-map, attributes_are, types_stand, names_stand, types_are}
 use Rattle.fork_bytes.proofs.ReadEntries.{entries_for, total-types_of, entries_are, references_for, references_are}
 use Rattle.fork_bytes.proofs.ReadData.{rows_for, rows_with_data, data_within, data_count}
@@ -226,7 +226,7 @@ bytes_hold limits table w =
     let sum : List MapRow → ℕ = sum_by (λ (r : MapRow). 4 + datum_length parts r.datum) in
     let read = ap sum (rows_read limits table w) in
     let all = data_count parts [] [] 0 table.rows (data_alone table.rows) refl w.bytes in
-    let few = w.small.bytes in omega arith
+    let few = few_bytes_by limits.lists limits.bytes (length parts) (length parts) w.small.bytes (omega arith) in omega arith
 
 all_hold : (limits : Limits) (table : Table) → IsWritten limits table → (condition : Condition) → HoldsWithin limits condition (written table)
 all_hold limits table w Parts = parts_hold limits table w

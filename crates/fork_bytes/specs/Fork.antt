@@ -1,5 +1,5 @@
 -- Which bytes are a resource fork, and which table they stand for.
-use Rattle.std.specs.Prelude.{◌≡◌, ◌≢◌, ℕ, zero, suc, ◌+◌, ◌*◌, ◌/◌, ◌%◌, min, ◌<◌, ◌≤◌, ◌==◌, if◌then◌else◌, List, [], ◌∷◌, ◌++◌, length, map, take, drop, replicate, slice_index, sum_by, Option, None, Some, IfSome, AllPairs, ⊤}
+use Rattle.std.specs.Prelude.{◌≡◌, ◌≢◌, ℕ, zero, suc, ◌+◌, ◌*◌, ◌/◌, ◌%◌, min, max, ◌<◌, ◌≤◌, ◌==◌, if◌then◌else◌, List, [], ◌∷◌, ◌++◌, length, map, take, drop, replicate, slice_index, sum_by, Option, None, Some, IfSome, AllPairs, ⊤}
 use Rattle.std.specs.List.{flat_map, AllByRecursion}
 use Rattle.std.specs.Int.{w16, cast_signed}
 use Rattle.byteorder.specs.Endian.{big_number}
@@ -170,6 +170,15 @@ rows_by HaveRoom rows map_length = min rows (map_length / 12)
 abbrev pub most_rows : Limits → ℕ → ℕ
 most_rows limits map_length = rows_by limits.lists limits.rows map_length
 
+-- the most bytes of all rows where the data have so many: rows that share bytes have no more than the data, or than
+-- macheap reads
+abbrev pub bytes_by : Lists → ℕ → ℕ → ℕ
+bytes_by MayOverlap bytes data_length = bytes
+bytes_by HaveRoom bytes data_length = min bytes (max max_fork data_length)
+
+abbrev pub most_bytes : Limits → ℕ → ℕ
+most_bytes limits data_length = bytes_by limits.lists limits.bytes data_length
+
 -- The parts lie within a fork of so many bytes.
 pub record HasPartsWithin (limits : Limits) (fork_length : ℕ) (header : Header) : Type 0 where
   pub small : fork_length ≤ limits.fork
@@ -203,7 +212,7 @@ HasData resource_data rows = AllByRecursion (λ (r : MapRow).
 
 -- All rows together have not too many bytes, those of the lengths among them.
 abbrev pub HasFewBytesWithin : Limits → List ℕ → List MapRow → Type 0
-HasFewBytesWithin limits resource_data rows = sum_by (λ (r : MapRow). 4 + datum_length resource_data r.datum) rows ≤ limits.bytes
+HasFewBytesWithin limits resource_data rows = sum_by (λ (r : MapRow). 4 + datum_length resource_data r.datum) rows ≤ most_bytes limits (length resource_data)
 
 -- what each condition says of a fork
 abbrev pub HoldsWithin : Limits → Condition → List ℕ → Type 0

@@ -7,7 +7,7 @@ use Rattle.fork_bytes.specs.declared.fault.ForkFault.TheVariants.{EndOfFile, Bad
 use Rattle.fork_bytes.specs.declared.layout.Header.{Header}
 use Rattle.fork_bytes.specs.declared.layout.Limits.{Limits}
 use Rattle.fork_bytes.specs.Rows.{Row, MapRow}
-use Rattle.fork_bytes.specs.Fork.{bytes_at, header_of, data_of, map_of, type_list, type_count, TypeEntry, Reference, name_place, entries_of, references_in, map_row, map_rows, datum_length, macheap_limits, HasTypes, HasReferences, HasFewRowsWithin, HasNames, rank}
+use Rattle.fork_bytes.specs.Fork.{bytes_at, header_of, data_of, map_of, type_list, type_count, TypeEntry, Reference, name_place, entries_of, references_in, map_row, map_rows, datum_length, max_fork, HasTypes, HasReferences, HasFewRowsWithin, HasNames, rank}
 use Rattle.mac_base.specs.declared.resource.Resource.{Resource}
 use Rattle.fork_bytes.specs.declared.place.Place.{Place}
 use Rattle.fork_bytes.specs.declared.types.TypeList.{TypeList}
@@ -53,12 +53,12 @@ row_at fork row = record {
 abbrev pub IsWithin : List ℕ → PlacedRow → Type 0
 IsWithin fork row = row.datum.offset + row.datum.length ≤ length fork
 
--- the rows have not too many bytes together, with four of length for each
-abbrev pub AreFewBytesWithin : Limits → List PlacedRow → Type 0
-AreFewBytesWithin limits rows = sum_by (λ (row : PlacedRow). 4 + row.datum.length) rows ≤ limits.bytes
+-- the rows have at most so many bytes together, with four of length for each
+abbrev pub AreFewBytesWithin : ℕ → List PlacedRow → Type 0
+AreFewBytesWithin most rows = sum_by (λ (row : PlacedRow). 4 + row.datum.length) rows ≤ most
 
 abbrev pub AreFewBytes : List PlacedRow → Type 0
-AreFewBytes = AreFewBytesWithin macheap_limits
+AreFewBytes = AreFewBytesWithin max_fork
 
 -- what each condition says of a map alone
 abbrev pub MapHoldsWithin : Limits → Condition → List ℕ → Type 0

@@ -4,7 +4,7 @@ ghost use Rattle.std.specs.Prelude.{◌≡◌, ◌<◌, ◌≤◌, ◌+◌, ◌^
 ghost use Rattle.fork_bytes.specs.Reading.{placed, AreFewBytesWithin};
 
 use crate::fault::{Condition, ForkFault};
-use crate::layout::{Header, Limits, MapRow};
+use crate::layout::{Header, MapRow};
 use crate::place::{Place, PlacedRow};
 use mac_base::resource::Resource;
 
@@ -52,18 +52,19 @@ pub fn place_row(header: Header, row: MapRow, length: u32) -> Result<PlacedRow, 
     })
 }
 
-/// Checks that the rows have not too many bytes together. The fault is BadMap(ByteCount), exactly where they have.
-pub fn check_bytes(rows: &[PlacedRow], limits: Limits) -> Result<(), ForkFault>
-    ensures few { OnOk result (AreFewBytesWithin limits rows.now) }
-    ensures fails { OnErr result (¬ AreFewBytesWithin limits rows.now) }
+/// Checks that the rows have at most so many bytes together. The fault is BadMap(ByteCount), exactly where they have more.
+pub fn check_bytes(rows: &[PlacedRow], most: usize) -> Result<(), ForkFault>
+    ensures few { OnOk result (AreFewBytesWithin most rows.now) }
+    ensures fails { OnErr result (¬ AreFewBytesWithin most rows.now) }
     ensures fault { IfErr result (λ fault. fault ≡ ForkFault.BadMap Condition.ByteCount) }
 {
-    let mut total = 0;
+    let mut left = most;
     for row in rows {
-        total += 4 + row.datum.length as usize;
-        if total > limits.bytes as usize {
+        let count = 4 + row.datum.length as usize;
+        if count > left {
             return Err(ForkFault::BadMap(Condition::ByteCount));
         }
+        left -= count;
     }
     Ok(())
 }

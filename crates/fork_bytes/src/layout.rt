@@ -1,7 +1,7 @@
 //! The parts of a resource fork.
 
-ghost use Rattle.std.specs.Prelude.{◌≡◌};
-ghost use Rattle.fork_bytes.specs.Fork.{most_rows};
+ghost use Rattle.std.specs.Prelude.{◌≡◌, ◌≤◌};
+ghost use Rattle.fork_bytes.specs.Fork.{most_bytes, most_rows};
 
 use mac_base::resource::{ResType, Resource};
 
@@ -66,6 +66,18 @@ impl Limits {
         match self.lists {
             Lists::MayOverlap => rows,
             Lists::HaveRoom => rows.min(map_length / REFERENCE_LENGTH),
+        }
+    }
+
+    /// The most bytes of all resources of a fork with so many bytes of data, those of their lengths among them.
+    pub fn most_bytes(&self, data_length: usize) -> usize
+        ensures most { result ≡ most_bytes self.now data_length }
+        ensures limit { result ≤ self.now.bytes }
+    {
+        let bytes = self.bytes as usize;
+        match self.lists {
+            Lists::MayOverlap => bytes,
+            Lists::HaveRoom => bytes.min(MAX_FORK.max(data_length)),
         }
     }
 }

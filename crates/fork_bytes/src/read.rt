@@ -78,18 +78,19 @@ fn find_rows<'a>(
     Ok(found)
 }
 
-/// Checks that rows have not too many bytes together. The fault is BadMap(ByteCount), exactly where they have.
-fn check_data(rows: &[Row], limits: Limits) -> Result<(), ForkFault>
-    ensures few { OnOk result (sum_by (λ (row : Row). 4 + length row.datum) rows.now ≤ limits.bytes) }
-    ensures fails { OnErr result (¬ (sum_by (λ (row : Row). 4 + length row.datum) rows.now ≤ limits.bytes)) }
+/// Checks that rows have at most so many bytes together. The fault is BadMap(ByteCount), exactly where they have more.
+fn check_data(rows: &[Row], most: usize) -> Result<(), ForkFault>
+    ensures few { OnOk result (sum_by (λ (row : Row). 4 + length row.datum) rows.now ≤ most) }
+    ensures fails { OnErr result (¬ (sum_by (λ (row : Row). 4 + length row.datum) rows.now ≤ most)) }
     ensures fault { IfErr result (λ fault. fault ≡ ForkFault.BadMap Condition.ByteCount) }
 {
-    let mut total = 0;
+    let mut left = most;
     for row in rows {
-        total += 4 + row.datum.as_slice().len();
-        if total > limits.bytes as usize {
+        let count = 4 + row.datum.as_slice().len();
+        if count > left {
             return Err(ForkFault::BadMap(Condition::ByteCount));
         }
+        left -= count;
     }
     Ok(())
 }
@@ -110,7 +111,7 @@ fn read_rows<'a>(
 {
     let rows = read_map(alloc, map_bytes(fork, header), limits)?;
     let rows = find_rows(alloc, fork, header, rows)?;
-    check_data(&rows, limits)?;
+    check_data(&rows, limits.most_bytes(header.data_length as usize))?;
     Ok(rows)
 }
 

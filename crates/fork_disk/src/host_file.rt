@@ -1,16 +1,15 @@
 //! A file of the system, and how often it has failed.
 
-ghost use Rattle.std.specs.Prelude.{◌≡◌, ◌∷◌, true, false, length, IfOk, IsErr, OnOk, OnErr, MatchResult};
+ghost use Rattle.std.specs.Prelude.{◌≡◌, ◌∷◌, true, false, length, IsErr, OnOk, OnErr, MatchResult};
 ghost use Rattle.fork_disk.specs.Disk.{Counts};
 ghost use Rattle.fork_disk.specs.Record.{cut_event, len_event, read_event, sync_event, write_event};
 
 use crate::disk::DiskFault;
 use crate::failures::Failures;
 use crate::record::FileCalls;
-use std::fs::{File, Files, OpenOptions};
+use std::fs::File;
 use std::io;
 use std::os::unix::fs::FileExt;
-use std::path::AsPath;
 
 const MEASURED: u64 = 0;
 
@@ -45,26 +44,6 @@ fn counted<T: Drop>(failures: &mut Failures, answer: io::Result<T>) -> Result<T,
     }
 }
 
-/// Whether the system refused a file since it may not be written.
-fn is_not_to_write(why: io::ErrorKind) -> bool {
-    matches!(
-        why,
-        io::ErrorKind::PermissionDenied | io::ErrorKind::ReadOnlyFilesystem
-    )
-}
-
-/// The file of a path, to read and to write it. A missing one is made, with length 0. Where it may only be read it is
-/// opened to be read: the system refuses each write and each cut of it then, and nothing changes. An error is that of
-/// the first try.
-fn opened<R: Files<File = File>>(files: &R, path: &str) -> io::Result<File> {
-    let mut both = OpenOptions::new();
-    match both.read(true).write(true).create(true).open(files, path) {
-        Ok(file) => Ok(file),
-        Err(why) if is_not_to_write(why.kind()) => { File::open(files, path).map_err(|_| why) }
-        Err(why) => Err(why),
-    }
-}
-
 impl HostFile {
     /// A file that is open. No call on it has failed, and no sync of `settle`.
     pub fn new(file: File) -> HostFile
@@ -79,16 +58,6 @@ impl HostFile {
             is_spent: false,
             which: 0,
         }
-    }
-
-    /// Opens a file to read and to write it, or to read it where it may only be read: each write fails then. A missing
-    /// one is made, with length 0. No call on it has failed, and no sync of `settle`.
-    pub fn open<R: Files<File = File>, P: AsPath>(files: &R, path: P) -> io::Result<HostFile>
-        ensures unfailed { IfOk result (λ file. file.failures ≡ 0) }
-        ensures unspent { IfOk result (λ file. file.is_spent ≡ false) }
-        ensures which { IfOk result (λ file. file.which ≡ 0) }
-    {
-        Ok(HostFile::new(opened(files, path.path_text())?))
     }
 
     /// The same file, with a number of its own among those that share a record.

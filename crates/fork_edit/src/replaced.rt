@@ -1,13 +1,13 @@
 //! What a file loses whose place another file takes.
 
-ghost use Rattle.std.specs.Prelude.{◌≡◌};
-ghost use Rattle.fork_edit.specs.Files.{IsSourceOf};
+ghost use Rattle.std.specs.Prelude.{◌≡◌, IfOk, IsTrue};
+ghost use Rattle.fork_edit.specs.Files.{HasTable, IsSourceOf};
 ghost use Rattle.fork_edit.specs.Replaced.{IsLostOr};
 
-use crate::file::fork_or_none;
+use crate::file::{NotWritten, fork_or_none, with_table};
 use fork_answer::{NoFork, read_table};
 use fork_bytes::fault::ForkFault;
-use fork_bytes::table::Row;
+use fork_bytes::table::{Row, Table};
 use fork_change::lacking;
 use mac_base::error::HostFull;
 use mac_files::bin_hex::fault::BinHexFault;
@@ -59,5 +59,17 @@ fn lost_in(alloc: Global, _file: &[u8], fork: &[u8], rows: &[Row]) -> Result<Los
     match lacking(alloc, rows, table.rows.as_slice())? {
         0 => Ok(Lost::Nothing),
         count => Ok(Lost::Resources(count)),
+    }
+}
+
+/// Whether a file with a table is another one as that would be with the same table: so nothing of the other is lost but
+/// resources.
+pub fn keeps_others(alloc: Global, file: &[u8], table: &Table, new: &[u8]) -> Result<bool, HostFull>
+    ensures { IfOk result (λ keeps. IsTrue keeps → HasTable file.now table.now new.now) }
+{
+    match with_table(alloc, file, table) {
+        Ok(kept) => Ok(kept.as_slice() == new),
+        Err(NotWritten::HostFull) => Err(HostFull),
+        Err(_) => Ok(false),
     }
 }

@@ -9,3 +9,4 @@ pub mod Found
 pub mod Front
 pub mod Again
 pub mod Texts
+pub mod Adding

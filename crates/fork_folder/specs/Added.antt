@@ -1,5 +1,5 @@
 -- Files that the manifest doesn't name.
-use Rattle.std.specs.Prelude.{◌≡◌, ℕ, ℤ, ◌||◌, Bool, true, List, ◌∷◌, ◌++◌, bytes_eq, string_bytes, Option}
+use Rattle.std.specs.Prelude.{◌≡◌, ℕ, ℤ, ◌||◌, Bool, true, List, [], ◌∷◌, ◌++◌, bytes_eq, string_bytes, Option}
 use Rattle.fork_folder.specs.declared.rows.Entry.{Entry}
 use Rattle.fork_folder.specs.Names.{file_name, folder_name, plain_name}
 
@@ -18,3 +18,8 @@ pub record IsNamedSo (path : List ℕ) (entry : Entry) (n : ℕ) : Type 0 where
 abbrev pub IsAdded : List ℕ → List Entry → List Entry → Type 0
 IsAdded path old new = (entry : Entry) × (n : ℕ) × (front : List Entry) × (back : List Entry)
     × IsNamedSo path entry n × (old ≡ front ++ back) × (new ≡ front ++ entry ∷ back)
+
+-- the entries of these paths are more of them, added one after the other
+abbrev pub AreAdded : List (List ℕ) → List Entry → List Entry → Type 0
+AreAdded [] old new = old ≡ new
+AreAdded (path ∷ paths) old new = (middle : List Entry) × IsAdded path old middle × AreAdded paths middle new

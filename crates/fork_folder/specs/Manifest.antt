@@ -1,7 +1,9 @@
 -- What is made of the texts and numbers of a manifest.
-use Rattle.std.specs.Prelude.{◌≡◌, ℕ, ◌+◌, ◌*◌, ◌<◌, List, length, slice_index, string_bytes, option_map, IfSome}
+use Rattle.std.specs.Prelude.{◌≡◌, ℕ, ◌+◌, ◌*◌, ◌<◌, List, [], ◌∷◌, length, slice_index, string_bytes, option_map, IfSome, ⊤}
 use Rattle.std.specs.Char.{digit_value}
+use Rattle.std.specs.List.{AllByRecursion}
 use Rattle.fork_list.specs.Roman.{AreBytes, roman_text}
+use Rattle.fork_folder.specs.declared.manifest.Manifest.{Manifest}
 use Rattle.fork_folder.specs.declared.manifest.Resource.{Resource}
 use Rattle.fork_folder.specs.Packed.{Listed}
 
@@ -23,6 +25,19 @@ pub record Says (resource : Resource) (one : Listed) : Type 0 where
   pub attributes : one.attributes.0 ≡ resource.attributes
   pub file : one.file ≡ string_bytes resource.file
 
+-- the manifest says of resources what is listed of them, one after the other
+abbrev pub AllSay : List Resource → List Listed → Type 0
+AllSay [] [] = ⊤
+AllSay [] (one ∷ ones) = ⊥
+AllSay (resource ∷ resources) [] = ⊥
+AllSay (resource ∷ resources) (one ∷ ones) = Says resource one × AllSay resources ones
+
+-- the manifest says of a fork: its 240 extra bytes, the attributes of its map, and its resources
+pub record SaysFork (manifest : Manifest) (bytes : List ℕ) (bits : ℕ) (ones : List Listed) : Type 0 where
+  pub extra : IsHexOf (string_bytes manifest.extra) bytes
+  pub map_attributes : bits ≡ manifest.map_attributes
+  pub resources : AllSay manifest.resources.items ones
+
 -- a type and a name of bytes
 pub record IsOfBytes (one : Listed) : Type 0 where
   pub kind : AreBytes one.kind
@@ -39,3 +54,16 @@ pub record IsSame (one other : Listed) : Type 0 where
 -- the manifest says of a resource what it says of no other
 abbrev pub IsReadAgain : Type 0
 IsReadAgain = (resource : Resource) (one other : Listed) → IsOfBytes one → IsOfBytes other → Says resource one → Says resource other → IsSame one other
+
+-- the same is listed of resources, one after the other
+abbrev pub AllSame : List Listed → List Listed → Type 0
+AllSame [] [] = ⊤
+AllSame [] (other ∷ others) = ⊥
+AllSame (one ∷ ones) [] = ⊥
+AllSame (one ∷ ones) (other ∷ others) = IsSame one other × AllSame ones others
+
+-- it says of a fork what it says of no other
+abbrev pub IsForkReadAgain : Type 0
+IsForkReadAgain = (manifest : Manifest) (extra extra' : List ℕ) (map map' : ℕ) (ones others : List Listed)
+    → AllByRecursion IsOfBytes ones → AllByRecursion IsOfBytes others → SaysFork manifest extra map ones → SaysFork manifest extra' map' others
+    → (extra ≡ extra') × (map ≡ map') × AllSame ones others

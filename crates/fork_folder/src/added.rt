@@ -1,7 +1,7 @@
 //! Files that the manifest doesn't name, by their paths.
 
-ghost use Rattle.std.specs.Prelude.{◌≡◌, ◌<◌, ◌≤◌, ◌^◌, IfOk, IfSome, OnOk, length};
-ghost use Rattle.fork_folder.specs.Added.{IsAdded, IsNamedSo, is_path};
+ghost use Rattle.std.specs.Prelude.{◌≡◌, ◌<◌, ◌≤◌, ◌^◌, IfOk, IfSome, OnOk, length, map};
+ghost use Rattle.fork_folder.specs.Added.{AreAdded, IsAdded, IsNamedSo, is_path};
 
 use crate::file_name::FileName;
 use crate::folder::{MarkedName, PlainName};
@@ -10,7 +10,6 @@ use bitflags::Flags;
 use mac_base::name::Name;
 use mac_base::resource::{ResAttrs, ResType};
 use std::alloc::{AllocError, Global};
-use std::collections::BTreeSet;
 
 /// What the path of a file says: the resource, and which one it is of those with its type and id, from 0 on.
 #[derive(Drop)]
@@ -183,14 +182,17 @@ fn add(alloc: Global, entries: &mut Vec<Entry>, path: &str) -> Result<(), PackFa
 /// Entries, and those of the files of these paths, each after the last of its type: its type, its id and its name are
 /// those that its path says, and it has no attributes. A path that `unpack` doesn't give is refused, and so is one whose
 /// type and id another entry has, unless it says which one of them it is.
+#[tactic(auto, using(crate::proofs::Adding::added_at))]
 pub fn with_added(
     alloc: Global,
     entries: Vec<Entry>,
-    paths: &BTreeSet<String>,
-) -> Result<Vec<Entry>, PackFault> {
+    paths: &[&str],
+) -> Result<Vec<Entry>, PackFault>
+    ensures { IfOk result (λ new. AreAdded (map (λ path. path.now) paths.now) entries.items new.items) }
+{
     let mut entries = entries;
     for path in paths {
-        add(alloc, &mut entries, path.as_str())?;
+        add(alloc, &mut entries, path)?;
     }
     Ok(entries)
 }

@@ -1,7 +1,7 @@
 //! No two resources are unpacked to one file, file systems take the names, and what was unpacked is packed again.
 
 ghost use Rattle.fork_folder.specs.Laws.{AreSafe, IsOneToOne};
-ghost use Rattle.fork_folder.specs.Manifest.{IsReadAgain};
+ghost use Rattle.fork_folder.specs.Manifest.{IsForkReadAgain, IsReadAgain};
 ghost use Rattle.fork_folder.specs.PackedAgain.{IsPackedAgain};
 
 /// Each resource has a path of its own, for a file system that has no regard to case too, and names that file systems
@@ -12,8 +12,11 @@ pub fn folder_laws()
 {}
 
 /// The files that the rows of a fork are unpacked to, packed again by what their manifest says, are those rows. And the
-/// manifest says of a resource what it says of no other, so what is written is read as the same. It computes nothing.
+/// manifest says of a resource, and of a fork, what it says of no other, so what is written is read as the same. Only
+/// tested is that its text is read as the manifest that was written: the kit's derives for serde have no clause on that.
+/// It computes nothing.
 pub fn pack_laws()
     ensures again { IsPackedAgain }
     ensures same { IsReadAgain }
+    ensures fork { IsForkReadAgain }
 {}

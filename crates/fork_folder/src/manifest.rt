@@ -1,9 +1,9 @@
 //! What `resources.json` says.
 
-ghost use Rattle.std.specs.Prelude.{◌≡◌, IfErr, IfOk, IfSome, option_map, string_bytes};
+ghost use Rattle.std.specs.Prelude.{◌≡◌, IfErr, IfOk, IfSome, map, option_map, string_bytes};
 ghost use Rattle.std.specs.List.{AllByRecursion, list_any};
 ghost use Rattle.fork_list.specs.Roman.{roman_text};
-ghost use Rattle.fork_folder.specs.Manifest.{IsHexOf, Says};
+ghost use Rattle.fork_folder.specs.Manifest.{IsHexOf, Says, SaysFork};
 ghost use Rattle.fork_folder.specs.Packed.{listed};
 ghost use Rattle.fork_folder.specs.PackedAgain.{entry_of};
 ghost use Rattle.fork_folder.specs.Unpacked.{file_row, unpacked_file};
@@ -221,8 +221,7 @@ pub fn manifest_of(alloc: Global, text: &str) -> Result<Packing, PackFault>
 fn packing_of(alloc: Global, manifest: Manifest) -> Result<Packing, PackFault>
     ensures inside { IfOk result (λ packing. AllByRecursion IsInFolder packing.entries.items) }
     ensures outside { IfErr result IsRefusedPath }
-    ensures extra { IfOk result (λ packing. IsHexOf (string_bytes manifest.extra) packing.extra) }
-    ensures map { IfOk result (λ packing. packing.map_attributes ≡ manifest.map_attributes) }
+    ensures says { IfOk result (λ packing. SaysFork manifest packing.extra packing.map_attributes (map listed packing.entries.items)) }
 {
     let Some(extra) = extra_of(manifest.extra.as_str()) else {
         return Err(PackFault::BadExtra);

@@ -9,3 +9,4 @@ pub mod Listing
 pub mod Types
 pub mod Names
 pub mod Counts
+pub mod Compressed

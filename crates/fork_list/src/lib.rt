@@ -5,6 +5,7 @@
 #![tactic(auto)]
 
 mod attribute;
+mod compressed;
 mod counts;
 pub mod find;
 mod kind;
@@ -21,9 +22,10 @@ mod types;
 pub mod version;
 
 pub use attribute::Attributes;
+pub use compressed::{has_marked, unpacked_length};
 pub use find::find_row;
 pub use kind::kind_of;
-pub use list::{RowText, is_chosen, listing};
+pub use list::{RowText, absent_kind, is_chosen, listing};
 pub use name::name_of;
 pub use quoted::{Escaped, Quoted, hexadecimal_digit};
 pub use roman::{byte_of, char_of};

@@ -28,6 +28,7 @@ use Rattle.fork_answer.specs.declared.source.NoFork.{NoFork}
 use Rattle.fork_answer.specs.declared.source.NoFork.TheVariants as no_fork
 use Rattle.fork_answer.specs.Source.{IsForkIn, IsNoForkIn}
 use Rattle.fork_list.specs.declared.letters.Letters.{Letters}
+use Rattle.fork_report.specs.declared.damage.Tally.{Tally}
 use Rattle.fork_report.specs.declared.damage.Damage.{Damage}
 use Rattle.fork_report.specs.declared.refusal.Refusal.{Refusal}
 use Rattle.fork_report.specs.declared.refusal.Refusal.TheVariants as refusal
@@ -41,7 +42,7 @@ use Rattle.fork_report.specs.declared.salvaged.SalvageList.{SalvageList}
 use Rattle.fork_answer.specs.Lines.{salvage_listing}
 use Rattle.fork_answer.specs.Mended.{IsMendedFork}
 use Rattle.fork_report.proofs.Refusing.{empty_whole, told_damaged}
-use Rattle.fork_report.specs.Salvaged.{HasLeft, HasNothing, IsDataNotSalvaged, IsGone, IsNotKept, IsNotLeft, IsNotListed, IsNotSalvaged, IsRefusedWhere, IsUnreadable, Lists, ListsNothing, Salvages, SalvagesData, TellsLeft, bytes_or_none, damage_by, damage_of, lack_by, nothing_left}
+use Rattle.fork_report.specs.Salvaged.{CanBeSalvaged, HasLeft, HasNothing, IsDataNotSalvaged, IsGone, IsNotKept, IsNotLeft, IsNotListed, IsNotSalvaged, IsRefusedWhere, IsUnreadable, Lists, ListsNothing, Salvages, SalvagesData, TellsLeft, bytes_or_none, damage_by, damage_of, lack_by, nothing_left}
 
 -- Files that are known as none with a fork.
 
@@ -434,3 +435,7 @@ salvages_data file fork salvaged has is damage = record {
   bytes = ap (λ (f : Forks). bytes_or_none f.data_fork) has.forks ∙ ap bytes_or_none is;
   damage = damage_is file salvaged.file which.Data fork salvaged.damage has damage;
 }
+
+-- the fork of a file is there, and what can be read of it
+pub can_be : (file : List ℕ) (left : Left) (tally : Option Tally) → (forks_in_spite file).resource_fork ≡ Some left → TellsLeft left.bytes tally → CanBeSalvaged file
+can_be file left tally is told = (left, is, (tally, told))

@@ -1,8 +1,8 @@
 -- Objects of JSON, made member by member, and lines of them.
-use Rattle.std.specs.Prelude.{◌≡◌, ℕ, List, [], ◌∷◌, ◌++◌, codes, Option, None, Some, Result, IfOk}
+use Rattle.std.specs.Prelude.{◌≡◌, ℕ, true, List, [], ◌∷◌, ◌++◌, codes, Option, None, Some, Result, IfOk}
 use Rattle.std.specs.declared.alloc.AllocError.{AllocError}
 use Rattle.serde_json.specs.declared.value.Value.{Value}
-use Rattle.serde_json.specs.Data.{Data, null, number, string, object, unsigned, Members, no_members, put}
+use Rattle.serde_json.specs.Data.{Data, null, boolean, number, string, object, unsigned, Members, no_members, put}
 use Rattle.serde_json.specs.View.{members_view, view}
 use Rattle.serde_json.specs.Written.{compact_text}
 use Rattle.fork_report.specs.declared.json_object.Object.{Object}
@@ -23,6 +23,11 @@ line_of it = compact_text it ++ 10 ∷ []
 abbrev pub place_data : Option ℕ → Data
 place_data None = null
 place_data (Some place) = number (unsigned place)
+
+-- members, and those of a compressed resource: that it is, and its length unpacked
+abbrev pub with_unpacked : Option ℕ → Members → Members
+with_unpacked None members = members
+with_unpacked (Some length) members = put (codes "unpacked") (number (unsigned length)) (put (codes "compressed") (boolean true) members)
 
 -- the members of an object that begins with the name of a file
 abbrev pub of_file : List ℕ → Members

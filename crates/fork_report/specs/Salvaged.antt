@@ -109,6 +109,10 @@ pub record Salvages (file : List ℕ) (salvaged : ForkSalvaged) : Type 0 where
   pub tells : TellsLeft left.bytes salvaged.tally
   pub damage : salvaged.damage ≡ damage_of file which.Resource left
 
+-- the resource fork of a file is there in spite of faults, and has none itself, or some resource of it can be read
+abbrev pub CanBeSalvaged : List ℕ → Type 0
+CanBeSalvaged file = (left : Left) × ((forks_in_spite file).resource_fork ≡ Some left) × ((tally : Option Tally) × TellsLeft left.bytes tally)
+
 -- why nothing is salvaged: no resource can be read of a damaged fork, or more than one fork holds; or there is no fork
 abbrev pub IsNotSalvaged : List ℕ → Refusal → Type 0
 IsNotSalvaged file refusal.Nothing = HasNothing IsUnreadable file None

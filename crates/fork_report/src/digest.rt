@@ -1,13 +1,14 @@
 //! Digests of resources and of forks.
 
 ghost use Rattle.std.specs.Prelude.{◌≡◌, ◌++◌, ◌∷◌, [], length, IfOk, OnOk, option_map, string_bytes};
+ghost use Rattle.fork_list.specs.Compressed.{unpacked_length};
 ghost use Rattle.fork_list.specs.Listing.{row_text};
 ghost use Rattle.fork_report.specs.Digests.{digest_line, digest_listing, digest_text};
 
 use fork_answer::request::Choice;
 use fork_bytes::table::Row;
 use fork_list::letters::Letters;
-use fork_list::{RowText, is_chosen};
+use fork_list::{RowText, is_chosen, unpacked_length};
 use mac_base::resource::ResType;
 use sha2::{Digest, Sha256};
 use std::alloc::{AllocError, Global};
@@ -37,7 +38,7 @@ fn push_line(
     row: &Row,
 ) -> Result<(), AllocError>
     ensures { OnOk result (string_bytes text.new ≡ string_bytes text.old
-        ++ (row_text length letters row.now ++ (32 ∷ (digest_text row.now.datum ++ 10 ∷ [])))) }
+        ++ (row_text length unpacked_length letters row.now ++ (32 ∷ (digest_text row.now.datum ++ 10 ∷ [])))) }
 {
     let line = RowText {
         letters,
@@ -46,6 +47,7 @@ fn push_line(
         count: row.datum.as_slice().len(),
         attributes: row.attributes,
         name: name_of(row),
+        unpacked: unpacked_length(row.attributes, row.datum.as_slice()),
     };
     let digest = digest_text(alloc, row.datum.as_slice())?;
     writeln!(text, "{line} {digest}")

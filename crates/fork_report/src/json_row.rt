@@ -1,5 +1,8 @@
 //! Resources as JSON.
 
+ghost use Rattle.serde_json.specs.Data.{Members};
+ghost use Rattle.fork_report.specs.Json.{Makes, with_unpacked};
+
 use crate::digest::digest_text;
 use crate::json_object::Object;
 use crate::json_text::{kind_value, roman_value, text_value};
@@ -50,14 +53,27 @@ fn name_value(alloc: Global, name: &Option<Name>) -> Result<Value, AllocError> {
     }
 }
 
+/// With what is said of a compressed resource: that it is, and its length unpacked.
+fn with_unpacked(object: Object, unpacked: Option<usize>) -> Object
+    ensures { (members : Members) → Makes object members → Makes result (with_unpacked unpacked members) }
+{
+    match unpacked {
+        Some(length) => object
+            .with("compressed", Ok(Value::Bool(true)))
+            .with("unpacked", Ok(Value::from(length))),
+        None => object,
+    }
+}
+
 /// A resource, but for its bytes.
 fn row_object<D: HasSize>(alloc: Global, row: &Resource<D>) -> Object {
-    Object::new(alloc)
+    let object = Object::new(alloc)
         .with("type", kind_value(alloc, row.kind))
         .with("id", Ok(Value::from(row.id)))
         .with("size", Ok(Value::from(row.datum.size())))
         .with("attributes", attributes_value(alloc, row.attributes))
-        .with("name", name_value(alloc, &row.name))
+        .with("name", name_value(alloc, &row.name));
+    with_unpacked(object, row.datum.unpacked(row.attributes))
 }
 
 /// A resource without its bytes.

@@ -26,5 +26,6 @@ pub use refusal::Refusal;
 pub use report::{Told, report_on};
 pub use request::{Form, Report};
 pub use salvaged::{
-    ContainerDamage, DataSalvaged, ForkSalvaged, SalvageList, salvage, salvage_data, salvage_list,
+    ContainerDamage, DataSalvaged, ForkSalvaged, SalvageList, can_be_salvaged, salvage,
+    salvage_data, salvage_list,
 };

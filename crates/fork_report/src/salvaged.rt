@@ -4,7 +4,7 @@
 ghost use Rattle.std.specs.Prelude.{◌≡◌, ◌≢◌, [], IfErr, IfOk, IsTrue, None, Some, false};
 ghost use Rattle.mac_salvage.specs.InSpite.{fault_by, forks_by, forks_in_spite, kind_by, left_by};
 ghost use Rattle.fork_report.specs.Damage.{IsDamaged, is_readable, tally_of};
-ghost use Rattle.fork_report.specs.Salvaged.{HasLeft, IsDataNotSalvaged, IsNotKept, IsNotLeft, IsNotListed, IsNotSalvaged, Lists, Salvages, SalvagesData, TellsLeft, damage_by, data_by, lack_by, nothing_left};
+ghost use Rattle.fork_report.specs.Salvaged.{CanBeSalvaged, HasLeft, IsDataNotSalvaged, IsNotKept, IsNotLeft, IsNotListed, IsNotSalvaged, Lists, Salvages, SalvagesData, TellsLeft, damage_by, data_by, lack_by, nothing_left};
 
 use crate::damage::{MOST_FOUND, Tally, tally_of};
 use crate::refusal::{Refusal, other_than_fork};
@@ -227,6 +227,23 @@ pub fn salvage(alloc: Global, bytes: &[u8]) -> Result<ForkSalvaged, Refusal>
         }),
         Err(WriteFault::HostFull) => Err(Refusal::Show(Failure::HostFull)),
         Err(WriteFault::TooBig) => Err(Refusal::TooMuch),
+    }
+}
+
+/// Whether a file's resource fork is there in spite of a fault of its container, and some resource of it can be read, or
+/// it has no fault itself.
+pub fn can_be_salvaged(alloc: Global, bytes: &[u8]) -> bool
+    ensures { IsTrue result → CanBeSalvaged bytes.now }
+{
+    let Ok(file) = file_left(alloc, bytes) else {
+        return false;
+    };
+    let Ok(fork) = fork_of(alloc, &file, bytes) else {
+        return false;
+    };
+    match left_of(alloc, fork.bytes, None) {
+        Ok(_tally) => true,
+        Err(_) => false,
     }
 }
 

@@ -6,12 +6,12 @@ use Rattle.fork_bytes.specs.declared.fault.ForkFault.TheVariants.{BadMap}
 use Rattle.fork_bytes.specs.declared.layout.Header.{Header}
 use Rattle.fork_bytes.specs.declared.layout.Limits.{Limits}
 use Rattle.fork_bytes.specs.Rows.{MapRow}
-use Rattle.fork_bytes.specs.Fork.{bytes_at, header_of, data_of, map_of, map_rows, extra_of, attributes_of, HasPartsWithin, HasData, StandsForWithin, RefusesWithin}
+use Rattle.fork_bytes.specs.Fork.{bytes_at, header_of, data_of, map_of, map_rows, most_bytes, extra_of, attributes_of, HasPartsWithin, HasData, StandsForWithin, RefusesWithin}
 use Rattle.fork_disk.specs.declared.store.ForkStore.{Ghosts}
 use Rattle.fork_disk.specs.Stores.{OnlyReads}
 use Rattle.fork_bytes.specs.Reading.{PlacedRow, placed_row, placed_rows, row_at, IsMapWithin, IsWithin, FaultsAt, AreFewBytesWithin}
 use Rattle.fork_bytes.proofs.Faults.{places_refuse, bytes_refuse, is_fork}
-use Rattle.fork_bytes.proofs.Placing.{few_from_placed, few_to_placed, rows_are_within}
+use Rattle.fork_bytes.proofs.Placing.{few_from_placed, few_to_placed, most_by_header, rows_are_within}
 use Rattle.fork_bytes.proofs.Whole.{parts_of_fork, map_is, stands}
 use Rattle.fork_rows.specs.declared.fault.OpenFault.{OpenFault}
 use Rattle.fork_rows.specs.declared.fault.OpenFault.TheVariants.{Fork, Device}
@@ -79,24 +79,30 @@ has_data limits fork header m rows read has = let P : List MapRow → Type 0 = H
 same_placed : (limits : Limits) (fork : List ℕ) (header : Header) (m : List ℕ) (rows : List MapRow) → Mapped limits fork header m rows → (placed : List PlacedRow) → placed ≡ map (placed_row fork) rows → placed ≡ placed_rows fork
 same_placed limits fork header m rows read placed is = is ∙ ap (map (placed_row fork)) (same_rows limits fork header m rows read)
 
+-- how many bytes they may have, by what the header says of the data
+most_is : (limits : Limits) (fork : List ℕ) (header : Header) (m : List ℕ) (rows : List MapRow) → Mapped limits fork header m rows → (most : ℕ) → most ≡ most_bytes limits header.data_length →
+    most ≡ most_bytes limits (length (data_of fork))
+most_is limits fork header m rows read most bound = bound ∙ most_by_header limits fork header read.head read.parts.whole_data
+
 -- the count of bytes is refused
 pub bytes_refused : (limits : Limits) (fork : List ℕ) (header : Header) (m : List ℕ) (rows : List MapRow) → Mapped limits fork header m rows → HasData (data_of fork) rows →
-    (placed : List PlacedRow) → placed ≡ map (placed_row fork) rows → (AreFewBytesWithin limits placed → ⊥) → RefusesWithin limits fork (BadMap ByteCount)
-bytes_refused limits fork header m rows read has placed is many =
-    let P : List PlacedRow → Type 0 = AreFewBytesWithin limits in
+    (placed : List PlacedRow) → placed ≡ map (placed_row fork) rows → (most : ℕ) → most ≡ most_bytes limits header.data_length →
+    (AreFewBytesWithin most placed → ⊥) → RefusesWithin limits fork (BadMap ByteCount)
+bytes_refused limits fork header m rows read has placed is most bound many =
+    let P : List PlacedRow → Type 0 = AreFewBytesWithin most in
     bytes_refuse limits fork read.whole (parts_of limits fork header m rows read) (map_holds limits fork header m rows read) (has_data limits fork header m rows read has)
-    (λ few. many (subst P (sym (same_placed limits fork header m rows read placed is)) (few_to_placed limits fork (map_rows (map_of fork)) few)))
+    (λ few. many (subst P (sym (same_placed limits fork header m rows read placed is)) (few_to_placed limits fork (map_rows (map_of fork)) most (most_is limits fork header m rows read most bound) few)))
 
 -- all of them hold
 pub has_places : (limits : Limits) (fork : List ℕ) (header : Header) (m : List ℕ) (rows : List MapRow) → Mapped limits fork header m rows → HasData (data_of fork) rows →
-    (placed : List PlacedRow) → placed ≡ map (placed_row fork) rows → AreFewBytesWithin limits placed →
+    (placed : List PlacedRow) → placed ≡ map (placed_row fork) rows → (most : ℕ) → most ≡ most_bytes limits header.data_length → AreFewBytesWithin most placed →
     (extra : List ℕ) (attributes : ℕ) → extra ≡ extra_of fork → attributes ≡ attributes_of m →
     HasPlacesWithin limits fork (record { rows = placed; extra = extra; map_attributes = attributes })
-has_places limits fork header m rows read has placed is few extra attributes following marks =
-    let P : List PlacedRow → Type 0 = AreFewBytesWithin limits in
+has_places limits fork header m rows read has placed is most bound few extra attributes following marks =
+    let P : List PlacedRow → Type 0 = AreFewBytesWithin most in
     let found = same_placed limits fork header m rows read placed is in (
       is_fork limits fork read.whole (parts_of limits fork header m rows read) (map_holds limits fork header m rows read) (has_data limits fork header m rows read has)
-          (few_from_placed limits fork (map_rows (map_of fork)) (subst P found few)),
+          (few_from_placed limits fork (map_rows (map_of fork)) most (most_is limits fork header m rows read most bound) (subst P found few)),
       ap (λ (r : List PlacedRow). record { rows = r; extra = extra; map_attributes = attributes }) found
           ∙ ap (λ (e : List ℕ). record { rows = placed_rows fork; extra = e; map_attributes = attributes }) following
           ∙ ap (λ (n : ℕ). record { rows = placed_rows fork; extra = extra_of fork; map_attributes = n }) (marks ∙ ap attributes_of (same_map limits fork header m rows read)),

@@ -29,7 +29,7 @@ pub fn read_rows_within<S: ForkStore>(
     ensures reads { S.is_honest store.new → Reads S.ForkStore store.old store.new (OpensAsWithin limits result) }
     ensures inside { IfOk result (λ table. AllByRecursion (EndsBy limits.fork) table.rows) }
     ensures most { IfOk result (λ table. length table.rows ≤ limits.rows) }
-    ensures few { IfOk result (λ table. AreFewBytesWithin limits table.rows) }
+    ensures few { IfOk result (λ table. AreFewBytesWithin limits.bytes table.rows) }
     ensures grouped { IfOk result (λ table. AreGrouped table.rows) }
     ensures cause { CountsDevice (S.failures store.old) (S.failures store.new) result }
 {
@@ -42,7 +42,7 @@ pub fn read_rows_within<S: ForkStore>(
     check_parts(header, fork_length, limits)?;
     let map = read_part(alloc, store, header.map_offset, header.map_length)?;
     let rows = find_rows(alloc, store, header, read_map(alloc, &map, limits)?)?;
-    check_bytes(&rows, limits)?;
+    check_bytes(&rows, limits.most_bytes(header.data_length as usize))?;
     Ok(PlacedTable {
         rows: PlacedRows::new(rows),
         extra: front.extra,

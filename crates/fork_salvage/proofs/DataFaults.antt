@@ -4,7 +4,7 @@ use Rattle.std.specs.List.{AllByRecursion}
 use Rattle.std.proofs.lemmas.Bool.{cases_lt, lt-ltb}
 use Rattle.std.proofs.lemmas.List.{append_assoc}
 use Rattle.std.proofs.lemmas.List.Sums.{sum_by_push}
-use Rattle.fork_bytes.specs.Fork.{header_of, map_of, data_of, datum_length, references_of, Reference, HasReferences, format_limits}
+use Rattle.fork_bytes.specs.Fork.{header_of, map_of, data_of, datum_length, references_of, Reference, HasReferences, format_limits, most_bytes}
 use Rattle.fork_bytes.proofs.Lists.{Ends}
 use Rattle.fork_salvage.specs.declared.place.Gap.{Gap}
 use Rattle.fork_salvage.specs.declared.place.Span.{Span}
@@ -108,10 +108,10 @@ sum_step fork left rest r total more so_far is added =
       sum = pushed fork left rest r total more so_far added;
     }
 
-pub sum_fails : (fork : List ℕ) (left rest : List Reference) (r : Reference) (total more : ℕ) (gap : Gap) (row : BadRow) → IsSum fork left total → left ≡ r ∷ rest →
-    more ≡ total + (4 + datum_length (data_of fork) (datum_place fork r)) → total ≤ format_limits.bytes → format_limits.bytes < more →
-    gap ≡ record { place = (header_of fork).data_offset + datum_place fork r; wanted = more; left = format_limits.bytes } → row ≡ bad_row fork r gap → IsBadSum fork row
-sum_fails fork left rest r total more gap row so_far is added few many gap_is row_told =
+pub sum_fails : (fork : List ℕ) (left rest : List Reference) (r : Reference) (total more most : ℕ) (gap : Gap) (row : BadRow) → most ≡ most_bytes format_limits (length (data_of fork)) → IsSum fork left total → left ≡ r ∷ rest →
+    more ≡ total + (4 + datum_length (data_of fork) (datum_place fork r)) → total ≤ most → most < more →
+    gap ≡ record { place = (header_of fork).data_offset + datum_place fork r; wanted = more; left = most } → row ≡ bad_row fork r gap → IsBadSum fork row
+sum_fails fork left rest r total more most gap row bound so_far is added few many gap_is row_told =
     let same = ap (λ (b : BadRow). b.gap) row_told in
     let sum = so_far.sum in let wanted = pushed fork left rest r total more so_far added in record {
       before = so_far.before;
@@ -121,5 +121,6 @@ sum_fails fork left rest r total more gap row so_far is added few many gap_is ro
       few = omega arith;
       many = omega arith;
       told = row_told ∙ ap (λ (g : Gap). bad_row fork r g) (sym same);
-      gap = same ∙ gap_is ∙ ap (λ (n : ℕ). record { place = (header_of fork).data_offset + datum_place fork r; wanted = n; left = format_limits.bytes }) (sym wanted);
+      gap = same ∙ gap_is ∙ ap (λ (n : ℕ). record { place = (header_of fork).data_offset + datum_place fork r; wanted = n; left = most }) (sym wanted)
+          ∙ ap (λ (n : ℕ). record { place = (header_of fork).data_offset + datum_place fork r; wanted = bytes_up_to fork (so_far.before ++ r ∷ []); left = n }) bound;
     }

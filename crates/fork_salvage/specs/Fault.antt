@@ -5,7 +5,7 @@ use Rattle.std.specs.Int.{w16, cast_signed}
 use Rattle.fork_bytes.specs.declared.fault.Condition.TheVariants as of
 use Rattle.fork_bytes.specs.declared.fault.ForkFault.{ForkFault}
 use Rattle.fork_bytes.specs.declared.fault.ForkFault.TheVariants.{EndOfFile, BadMap}
-use Rattle.fork_bytes.specs.Fork.{number_at, bytes_at, header_of, map_of, data_of, type_list, name_list, type_count, Reference, entry_at, references_of, map_row, datum_length, format_limits, most_rows}
+use Rattle.fork_bytes.specs.Fork.{number_at, bytes_at, header_of, map_of, data_of, type_list, name_list, type_count, Reference, entry_at, references_of, map_row, datum_length, format_limits, most_rows, most_bytes}
 use Rattle.fork_bytes.specs.Reading.{HasName, HasDatum}
 use Rattle.fork_salvage.specs.declared.place.Gap.{Gap}
 use Rattle.fork_salvage.specs.declared.fault.BadRow.{BadRow}
@@ -135,13 +135,13 @@ pub record IsBadSum (fork : List ℕ) (row : BadRow) : Type 0 where
   pub reference : Reference
   pub after : List Reference
   pub split : references_of (map_of fork) ≡ before ++ reference ∷ after
-  pub few : bytes_up_to fork before ≤ format_limits.bytes
-  pub many : format_limits.bytes < bytes_up_to fork (before ++ reference ∷ [])
+  pub few : bytes_up_to fork before ≤ most_bytes format_limits (length (data_of fork))
+  pub many : most_bytes format_limits (length (data_of fork)) < bytes_up_to fork (before ++ reference ∷ [])
   pub told : row ≡ bad_row fork reference row.gap
   pub gap : row.gap ≡ record {
     place = (header_of fork).data_offset + datum_place fork reference;
     wanted = bytes_up_to fork (before ++ reference ∷ []);
-    left = format_limits.bytes;
+    left = most_bytes format_limits (length (data_of fork));
   }
 
 -- how many references a fork has, how long its map is, and how many are read of such a map

@@ -2,7 +2,7 @@
 use Rattle.std.specs.Prelude.{ℕ, zero, suc, ◌+◌, ◌-◌, ◌*◌, ◌/◌, ◌==◌, ◌&&◌, not, nat_le, nat_lt, min, max, if◌then◌else◌, Bool, true, false, List, [], ◌∷◌, ◌++◌, length, take, sum_by, slice_index, None, Some, Result, Ok, Err, is_ok}
 use Rattle.std.specs.List.{flat_map, list_all}
 use Rattle.std.specs.Int.{w16, cast_signed}
-use Rattle.fork_bytes.specs.Fork.{number_at, bytes_at, count_at, attributes_of, places, type_list, name_list, Reference, references_in, format_limits, most_rows}
+use Rattle.fork_bytes.specs.Fork.{number_at, bytes_at, count_at, attributes_of, places, type_list, name_list, Reference, references_in, format_limits, most_rows, most_bytes}
 use Rattle.fork_salvage.specs.declared.place.Span.{Span}
 use Rattle.fork_salvage.specs.declared.place.NameSpan.{NameSpan}
 use Rattle.fork_salvage.specs.declared.place.Parts.{Parts}
@@ -128,6 +128,10 @@ references fork plan = references_from fork plan 0
 -- those that are looked at: no more than the map has room for
 abbrev pub most_listed : List ℕ → Plan → ℕ
 most_listed fork plan = most_rows format_limits (length (map_in fork plan))
+
+-- how many bytes all resources have at most, with their lengths
+abbrev pub most_summed : List ℕ → Plan → ℕ
+most_summed fork plan = most_bytes format_limits (length (data_in fork plan))
 
 abbrev pub listed : List ℕ → Plan → List Reference
 listed fork plan = take (most_listed fork plan) (references fork plan)

@@ -73,7 +73,7 @@ pub enum Fault {
     Length(BadRow),
     /// The bytes of a resource end outside of the data. The place is that of their length.
     Bytes(BadRow),
-    /// The resources as far as this one have more than 268,435,456 bytes together: so many are wanted.
+    /// The resources as far as this one have more bytes together than are read of such data: so many are wanted.
     ByteCount(BadRow),
 }
 
@@ -163,14 +163,30 @@ impl fmt::Display for Fault {
             Fault::Name(row) => write_row(f, row, "its name with its byte of length has", "map"),
             Fault::Length(row) => write_row(f, row, "the bytes of its length are", "data"),
             Fault::Bytes(row) => write_row(f, row, "its length is", "data"),
-            Fault::ByteCount(row) => write_row(
-                f,
-                row,
-                "the bytes of the resources up to it are",
-                "268435456 that are read",
-            ),
+            Fault::ByteCount(row) => write_sum(f, row),
         }
     }
+}
+
+/// What is said of the resource at which all have too many bytes.
+fn write_sum<W: fmt::Write>(f: &mut fmt::Formatter<W>, row: &BadRow) -> fmt::Result {
+    let kind = row.kind.bytes();
+    let kind = Quoted::single(Letters::Raw, &kind);
+    let BadRow {
+        id,
+        reference,
+        gap,
+        ..
+    } = *row;
+    let Gap {
+        place,
+        wanted,
+        left,
+    } = gap;
+    write!(
+        f,
+        "{kind} {id}: the bytes of the resources up to it are {wanted}, and at most {left} are read of such data\n  at ${place:06X}, reached from the reference at ${reference:06X}"
+    )
 }
 
 /// What is said of a type that is twice.

@@ -22,10 +22,8 @@ use crate::reference::{Loss, MapReference, NO_NAME, REFERENCE_LENGTH, find_bytes
 use fork_bytes::layout::Limits;
 use std::alloc::{AllocError, Global};
 
-/// The most bytes of a fork, and the most bytes of all resources with their lengths.
+/// The most bytes of a fork.
 pub(crate) const MAX_FORK: usize = Limits::FORMAT.fork as usize;
-
-const MAX_BYTES: usize = Limits::FORMAT.bytes as usize;
 
 /// The parts of a fork, or the first fault of its header.
 fn check_parts(fork: &[u8]) -> Result<Parts, Fault>
@@ -305,16 +303,17 @@ fn find_sum(fork: &[u8], plan: &Plan) -> Option<Fault>
     ensures refusal { IfSome result (λ fault. refusal_of fault ≡ BadMap condition.ByteCount) }
     ensures none { IfNone result (HoldsWithin format_limits condition.ByteCount fork.now) }
 {
+    let most = plan.most_bytes(fork);
     let mut total = 0;
     let mut cursor = Cursor::new();
     while let Some(reference) = cursor.next(fork, plan) {
         if let Ok(bytes) = find_bytes(fork, plan, reference.place) {
             total += 4 + bytes.length;
-            if total > MAX_BYTES {
+            if total > most {
                 let gap = Gap {
                     place: bytes.start - 4,
                     wanted: total,
-                    left: MAX_BYTES,
+                    left: most,
                 };
                 return Some(Fault::ByteCount(bad_row(fork, plan, reference, gap)));
             }

@@ -1,8 +1,9 @@
 //! How a fork is read: as its header and its map say, or mended.
 
 ghost use Rattle.std.specs.Prelude.{◌≡◌, ◌<◌, ◌≤◌, ◌+◌, ◌*◌, ◌^◌, length, IfSome, IfNone, IsTrue, true, false};
+ghost use Rattle.fork_bytes.specs.Fork.{format_limits};
 ghost use Rattle.fork_salvage.specs.Plans.{IsPlan, IsTypes, IsWithin};
-ghost use Rattle.fork_salvage.specs.Salvage.{parts_at, told_plan, told_types, may_be_told, is_copy, is_crowded, lies_within, most_listed, parts_beside, mended_parts, stretched, fits, clipped, types_found, types_before_lists, mended_types, mended_plan};
+ghost use Rattle.fork_salvage.specs.Salvage.{parts_at, told_plan, told_types, may_be_told, is_copy, is_crowded, lies_within, most_listed, most_summed, parts_beside, mended_parts, stretched, fits, clipped, types_found, types_before_lists, mended_types, mended_plan};
 
 use crate::entry::{ENTRY_LENGTH, Types, next_start, told_count, told_list};
 use crate::number::{read_count, read_four, read_two};
@@ -36,6 +37,14 @@ impl Plan {
         ensures { result ≡ most_listed fork.now self.now }
     {
         Limits::FORMAT.most_rows(self.map.of(fork).len())
+    }
+
+    /// How many bytes all resources of a fork have at most, with their lengths.
+    pub(crate) fn most_bytes(&self, fork: &[u8]) -> usize
+        ensures most { result ≡ most_summed fork.now self.now }
+        ensures small { result ≤ format_limits.bytes }
+    {
+        Limits::FORMAT.most_bytes(self.data.of(fork).len())
     }
 }
 

@@ -3,3 +3,4 @@ pub mod Lengths
 pub mod ReadBack
 pub mod Stopping
 pub mod Reasons
+pub mod Saying

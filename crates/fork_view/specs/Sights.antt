@@ -3,13 +3,14 @@ use Rattle.std.specs.Prelude.{◌≡◌, ◌≢◌, ◌⊎◌, ℕ, Bool, true, 
 use Rattle.std.specs.List.{flat_map}
 use Rattle.std.specs.Option.{option_map_or}
 use Rattle.fork_bytes.specs.Rows.{Row}
+use Rattle.fork_list.specs.Compressed.{unpacked_length}
 use Rattle.fork_answer.specs.Answer.{wanted_row}
 use Rattle.fork_view.specs.declared.view.Chosen.TheVariants as chosen
 use Rattle.fork_view.specs.declared.view.Chosen.{Chosen}
 use Rattle.fork_view.specs.declared.view.NotShown.{NotShown}
 use Rattle.fork_view.specs.declared.view.NotShown.TheVariants as unshown
 use Rattle.fork_view.specs.declared.view.ShowAs.{ShowAs}
-use Rattle.fork_view.specs.declared.view.ShowAs.TheVariants.{Text, Png}
+use Rattle.fork_view.specs.declared.view.ShowAs.TheVariants.{Text, Hex, Png}
 use Rattle.fork_view.specs.declared.view.Sight.{Sight}
 use Rattle.fork_view.specs.declared.view.Untold.{Untold}
 use Rattle.fork_view.specs.Forms.{ends_early, picture_file}
@@ -19,14 +20,25 @@ abbrev pub IsShownAs : Option ShowAs → Row → Bool → List ℕ → Type 0
 IsShownAs form row true bytes = ((form ≡ None) ⊎ (form ≡ Some Png)) × (picture_file row ≡ Some bytes)
 IsShownAs form row false bytes = (form ≢ Some Png) × (form ≡ None → picture_file row ≡ None)
 
--- why a resource can't be shown in a form, where it is no picture: its text ends too early
+-- why a resource can't be shown as text: it ends too early
+abbrev pub why_no_text : Option ShowAs → Row → Option NotShown
+why_no_text (Some Text) row = if ends_early row then Some unshown.NoText else None
+why_no_text form row = None
+
+-- why a resource can't be shown in a form, or as its type says, where it is no picture: it is compressed, or its text
+-- ends too early. In digits each can be shown
 abbrev pub why_untold : Option ShowAs → Row → Option NotShown
-why_untold (Some Text) row = if ends_early row then Some unshown.NoText else None
-why_untold form row = None
+why_untold (Some Hex) row = None
+why_untold form row = option_map_or (λ length. Some (unshown.Compressed length)) (unpacked_length row.attributes.0 row.datum) (why_no_text form row)
+
+-- the same among others: without a form each is shown
+abbrev pub why_left_out : Option ShowAs → Row → Option NotShown
+why_left_out None row = None
+why_left_out (Some form) row = why_untold (Some form) row
 
 -- the same, with its type and its id
 abbrev pub untold_of : Option ShowAs → Row → List Untold
-untold_of form row = option_map_or (λ why. record { kind = row.kind; id = row.id; why = why } ∷ []) (why_untold form row) []
+untold_of form row = option_map_or (λ why. record { kind = row.kind; id = row.id; why = why } ∷ []) (why_left_out form row) []
 
 -- the type is the one that is asked for, if one is
 abbrev pub is_of_kind : Option (List ℕ) → List ℕ → Bool
@@ -37,11 +49,12 @@ is_of_kind (Some kind) own = bytes_eq kind own
 abbrev pub untold_in : Option (List ℕ) → Option ShowAs → Row → List Untold
 untold_in kind form row = if is_of_kind kind row.kind then untold_of form row else []
 
--- what is shown of one resource, or why it isn't: it is no picture, or its text ends too early
+-- what is shown of one resource, or why it isn't: it is compressed, or no picture, or its text ends too early
 abbrev pub ShowsRow : Option ShowAs → Row → Result Sight NotShown → Type 0
 ShowsRow form row (Ok sight) = IsShownAs form row sight.is_picture sight.bytes.items × (why_untold form row ≡ None) × (sight.untold.items ≡ [])
 ShowsRow form row (Err (unshown.NoPicture kind)) = (form ≡ Some Png) × (picture_file row ≡ None) × (kind ≡ row.kind)
 ShowsRow form row (Err unshown.NoText) = why_untold form row ≡ Some unshown.NoText
+ShowsRow form row (Err (unshown.Compressed length)) = why_untold form row ≡ Some (unshown.Compressed length)
 ShowsRow form row (Err unshown.HostFull) = ⊤
 ShowsRow form row (Err other) = ⊥
 

@@ -1,8 +1,13 @@
 //! What `resources.json` says: all of a fork that isn't in the files of its resources.
 
+ghost use Rattle.std.specs.Prelude.{◌≡◌, IfOk, map};
+ghost use Rattle.fork_folder.specs.Manifest.{AllSay};
+ghost use Rattle.fork_folder.specs.PackedAgain.{entry_of};
+ghost use Rattle.fork_folder.specs.Unpacked.{file_row, unpacked_file};
+
 use fork_bytes::table::Table;
 use fork_folder::files::File;
-use fork_folder::manifest::{Manifest, resource_of};
+use fork_folder::manifest::{Manifest, Resource, resource_of};
 use fork_list::{hexadecimal_digit, text_of};
 use mac_files::OldFile;
 use mac_files::contents::{Dates, FinderInfo};
@@ -44,18 +49,28 @@ fn four_of(alloc: Global, four: Option<[u8; 4]>) -> Result<Option<String>, Alloc
     }
 }
 
+/// What `resources.json` says of resources that are unpacked to these files.
+fn resources_of(alloc: Global, files: &[File<'_>]) -> Result<Vec<Resource>, AllocError>
+    ensures { IfOk result (λ resources. AllSay resources.items (map (λ file. entry_of (file_row file) (unpacked_file file)) files.now)) }
+{
+    let mut resources = Vec::new(alloc);
+    for file in files {
+        resources.push(resource_of(alloc, file)?)?;
+    }
+    Ok(resources)
+}
+
 /// What `resources.json` says of a file with this table, whose resources are unpacked to these files.
 pub fn manifest_of(
     alloc: Global,
     file: &[u8],
     table: &Table<'_>,
     files: &[File<'_>],
-) -> Result<Manifest, AllocError> {
+) -> Result<Manifest, AllocError>
+    ensures map { IfOk result (λ manifest. manifest.map_attributes ≡ table.now.map_attributes) }
+    ensures resources { IfOk result (λ manifest. AllSay manifest.resources.items (map (λ file. entry_of (file_row file) (unpacked_file file)) files.now)) }
+{
     let (container, finder, dates) = origin_of(alloc, file);
-    let mut resources = Vec::new(alloc);
-    for file in files {
-        resources.push(resource_of(alloc, file)?)?;
-    }
     Ok(Manifest {
         container: match container {
             Some(name) => Some(String::from_str(alloc, name)?),
@@ -68,6 +83,6 @@ pub fn manifest_of(
         modified: dates.map(|dates| dates.modified),
         extra: hex_of(alloc, &table.extra)?,
         map_attributes: table.map_attributes,
-        resources,
+        resources: resources_of(alloc, files)?,
     })
 }

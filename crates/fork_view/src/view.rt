@@ -2,13 +2,13 @@
 
 ghost use Rattle.std.specs.Prelude.{◌≡◌, IfOk, OnOk, [], ◌∷◌, ◌++◌};
 ghost use Rattle.std.specs.List.{flat_map};
-ghost use Rattle.fork_view.specs.Sights.{ShowsChosen, ShowsRow, ShowsRows, is_of_kind, untold_in, untold_of, why_untold};
+ghost use Rattle.fork_view.specs.Sights.{ShowsChosen, ShowsRow, ShowsRows, is_of_kind, untold_in, untold_of, why_left_out, why_untold};
 
 use crate::form::{ends_early, is_text, png_of, push_hex, push_text};
 use fork_bytes::table::Row;
 use fork_list::find::Wanted;
 use fork_list::letters::Letters;
-use fork_list::{KindText, NamePart, Quoted, find_row};
+use fork_list::{KindText, NamePart, Quoted, find_row, unpacked_length};
 use mac_base::resource::ResType;
 use std::alloc::{AllocError, Global};
 use thiserror::Error;
@@ -49,6 +49,9 @@ pub enum NotShown {
     /// It can't be text.
     #[error("it ends before its texts do; --as hex shows its bytes")]
     NoText,
+    /// It is compressed, and has so many bytes once it is unpacked.
+    #[error("compressed, {0} bytes unpacked; its bytes can be had with get")]
+    Compressed(usize),
     /// Several resources can't be one PNG file.
     #[error("a PNG file has one picture: name a resource by its type and its id; --as hex writes hexadecimal digits, and --as text texts")]
     ManyPictures,
@@ -85,7 +88,7 @@ pub struct Sight {
     pub untold: Vec<Untold>,
 }
 
-/// Why a resource can't be shown in a form, where it is no picture.
+/// Why a resource can't be shown in a form, or as its type says, where it is no picture.
 fn why_untold(
     alloc: Global,
     row: &Row,
@@ -93,13 +96,33 @@ fn why_untold(
 ) -> Result<Option<NotShown>, AllocError>
     ensures { IfOk result (λ why. why ≡ why_untold form row.now) }
 {
+    if form == Some(ShowAs::Hex) {
+        return Ok(None);
+    }
+    if let Some(length) = unpacked_length(row.attributes, row.datum.as_slice()) {
+        return Ok(Some(NotShown::Compressed(length)));
+    }
     if form == Some(ShowAs::Text) && ends_early(alloc, row)? {
         return Ok(Some(NotShown::NoText));
     }
     Ok(None)
 }
 
-/// Adds a resource in a form, or else by its type as text or in hexadecimal digits.
+/// Adds a resource by its type as text, or in hexadecimal digits; of a compressed one a line says that it is.
+fn push_by_type(alloc: Global, text: &mut String, row: &Row) -> Result<bool, AllocError> {
+    if let Some(length) = unpacked_length(row.attributes, row.datum.as_slice()) {
+        let why = NotShown::Compressed(length);
+        writeln!(text, "{why}")?;
+        return Ok(true);
+    }
+    if is_text(row) {
+        push_text(alloc, text, row)
+    } else {
+        Ok(false)
+    }
+}
+
+/// Adds a resource in a form, or else by its type.
 fn push_row(
     alloc: Global,
     text: &mut String,
@@ -108,7 +131,7 @@ fn push_row(
 ) -> Result<(), AllocError> {
     let is_shown = match form {
         Some(ShowAs::Text) => push_text(alloc, text, row)?,
-        None if is_text(row) => push_text(alloc, text, row)?,
+        None => push_by_type(alloc, text, row)?,
         _ => false,
     };
     if !is_shown {
@@ -167,6 +190,20 @@ fn is_of_kind(kind: &Option<ResType>, own: ResType) -> bool
     }
 }
 
+/// Why a resource can't be shown among others. Where no form is asked for it can be: of a compressed one a line says so.
+fn why_left_out(
+    alloc: Global,
+    row: &Row,
+    form: Option<ShowAs>,
+) -> Result<Option<NotShown>, AllocError>
+    ensures { IfOk result (λ why. why ≡ why_left_out form row.now) }
+{
+    if form.is_none() {
+        return Ok(None);
+    }
+    why_untold(alloc, row, form)
+}
+
 /// Adds a resource after its title, or to those that can't be shown.
 fn push_titled(
     alloc: Global,
@@ -177,7 +214,7 @@ fn push_titled(
 ) -> Result<(), AllocError>
     ensures { OnOk result (others.new.items ≡ others.old.items ++ untold_of form row.now) }
 {
-    match why_untold(alloc, row, form)? {
+    match why_left_out(alloc, row, form)? {
         Some(why) => {
             let kind = row.kind;
             let id = row.id;

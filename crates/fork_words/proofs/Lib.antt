@@ -1,3 +1,4 @@
 pub mod Naming
 pub mod Places
 pub mod Endings
+pub mod Colons

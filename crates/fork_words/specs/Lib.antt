@@ -1,6 +1,10 @@
+pub mod Given
 pub mod Inputs
 pub mod Kinds
+pub mod Named
 pub mod Asks
 pub mod Sizes
 pub mod Endings
 pub mod Places
+pub mod Changes
+pub mod Asked

@@ -1,9 +1,13 @@
 //! The words of the command line.
 
-ghost use Rattle.std.specs.Prelude.{◌≡◌, [], None, Some, IfErr, IfOk, codes, option_map, unwrap_or};
-ghost use Rattle.clap.specs.Matches.{first_value, found_of, matched_of, one_text, raw_values};
+ghost use Rattle.std.specs.Prelude.{◌≡◌, ℕ, true, false, IfErr, IfOk, List, codes};
+ghost use Rattle.clap.specs.Matches.{first_value, found_of};
+ghost use Rattle.fork_words.specs.Asked.{Asks, IsAskedBy, IsChosen, IsReport, IsReporting, IsRequest, IsShowing, IsShownBytes, digests_of, letters_of, titles_of};
 ghost use Rattle.fork_words.specs.Asks.{IsFault, IsFit};
+ghost use Rattle.fork_words.specs.Changes.{form_of};
+ghost use Rattle.fork_words.specs.Given.{is_given, texts_of, word_of, word_or, words_of};
 ghost use Rattle.fork_words.specs.Kinds.{IsKindRefused, NameKinds, NamesKind};
+ghost use Rattle.fork_words.specs.Named.{NamesKey, NamesName, NamesNth};
 
 use crate::command::program;
 use crate::ending::view_form;
@@ -156,6 +160,7 @@ pub fn asked_by<'a, S: AsStr>(alloc: Global, words: &'a [S]) -> Result<Command<'
 
 /// What a command and its words ask for.
 fn asked_of<'a>(alloc: Global, matches: &ArgMatches<'a>) -> Result<Command<'a>, NotAsked>
+    ensures asked { IfOk result (IsAskedBy matches.now) }
     ensures fit { IfOk result (λ command. IsFit command.asked) }
     ensures fault { IfErr result IsFault }
 {
@@ -170,6 +175,7 @@ fn asked_of<'a>(alloc: Global, matches: &ArgMatches<'a>) -> Result<Command<'a>, 
 
 /// What the command of this name asks for.
 fn asked_for<'a>(alloc: Global, name: &str, matches: &ArgMatches<'a>) -> Result<Asked<'a>, NotAsked>
+    ensures asked { IfOk result (Asks name.now (found_of matches.now)) }
     ensures fit { IfOk result IsFit }
     ensures fault { IfErr result IsFault }
 {
@@ -185,12 +191,18 @@ fn asked_for<'a>(alloc: Global, name: &str, matches: &ArgMatches<'a>) -> Result<
     }
 }
 
+/// Whether a flag is given.
+pub(crate) fn flag(matches: &ArgMatches<'_>, name: &str) -> bool
+    ensures { result ≡ is_given (found_of matches.now) name.now }
+{
+    matches.get_one(name).unwrap_or(false)
+}
+
 /// The form in which something is reported.
 pub(crate) fn form_of(matches: &ArgMatches<'_>) -> Form
-    ensures json { one_text (found_of matches.now) (codes "json") ≡ Some (codes "true") → result ≡ Form.Json }
-    ensures text { one_text (found_of matches.now) (codes "json") ≡ None → result ≡ Form.Text }
+    ensures { result ≡ form_of (found_of matches.now) }
 {
-    if matches.get_flag("json") {
+    if flag(matches, "json") {
         Form::Json
     } else {
         Form::Text
@@ -198,8 +210,10 @@ pub(crate) fn form_of(matches: &ArgMatches<'_>) -> Form
 }
 
 /// Whether digests are shown.
-fn digests_of(matches: &ArgMatches<'_>) -> Digests {
-    if matches.get_flag("sha256") {
+fn digests_of(matches: &ArgMatches<'_>) -> Digests
+    ensures { result ≡ digests_of (found_of matches.now) }
+{
+    if flag(matches, "sha256") {
         Digests::Sha256
     } else {
         Digests::Hidden
@@ -207,8 +221,10 @@ fn digests_of(matches: &ArgMatches<'_>) -> Digests {
 }
 
 /// Where the names of files are.
-fn titles_of(matches: &ArgMatches<'_>) -> Titles {
-    if matches.get_flag("paths") {
+fn titles_of(matches: &ArgMatches<'_>) -> Titles
+    ensures { result ≡ titles_of (found_of matches.now) }
+{
+    if flag(matches, "paths") {
         Titles::BeforeLines
     } else {
         Titles::BeforeFiles
@@ -217,6 +233,7 @@ fn titles_of(matches: &ArgMatches<'_>) -> Titles {
 
 /// What `info` asks for.
 fn asked_to_tell<'a>(alloc: Global, matches: &ArgMatches<'a>) -> Result<Asked<'a>, NotAsked>
+    ensures asked { IfOk result (Asks (codes "info") (found_of matches.now)) }
     ensures fit { IfOk result IsFit }
     ensures fault { IfErr result IsFault }
 {
@@ -226,8 +243,10 @@ fn asked_to_tell<'a>(alloc: Global, matches: &ArgMatches<'a>) -> Result<Asked<'a
 }
 
 /// How letters that aren't ASCII are shown.
-fn letters_of(matches: &ArgMatches<'_>) -> Letters {
-    if matches.get_flag("raw") {
+fn letters_of(matches: &ArgMatches<'_>) -> Letters
+    ensures { result ≡ letters_of (found_of matches.now) }
+{
+    if flag(matches, "raw") {
         Letters::Raw
     } else {
         Letters::Roman
@@ -236,13 +255,22 @@ fn letters_of(matches: &ArgMatches<'_>) -> Letters {
 
 /// The value of an option or an operand that must be there.
 pub(crate) fn word<'a>(matches: &ArgMatches<'a>, name: &str) -> &'a str
-    ensures { result.now ≡ unwrap_or (first_value (found_of matches.now) name.now) [] }
+    ensures { result.now ≡ word_of (found_of matches.now) name.now }
 {
-    matches.get_str(name).unwrap_or("")
+    word_or(matches, name, "")
+}
+
+/// The value of an option, or else this word.
+pub(crate) fn word_or<'a>(matches: &ArgMatches<'a>, name: &str, other: &'a str) -> &'a str
+    ensures { result.now ≡ word_or (found_of matches.now) name.now other.entry.now }
+{
+    matches.get_str(name).unwrap_or(other)
 }
 
 /// The files that a command names.
-fn files_named<'a>(alloc: Global, matches: &ArgMatches<'a>) -> Result<Vec<&'a str>, AllocError> {
+fn files_named<'a>(alloc: Global, matches: &ArgMatches<'a>) -> Result<Vec<&'a str>, AllocError>
+    ensures { IfOk result (λ files. texts_of files.items ≡ words_of (found_of matches.now) (codes "file")) }
+{
     Vec::from_slice(alloc, matches.get_strs("file").unwrap_or(&[]))
 }
 
@@ -252,6 +280,7 @@ fn reported<'a>(
     report: Report,
     matches: &ArgMatches<'a>,
 ) -> Result<Asked<'a>, NotAsked>
+    ensures asked { IfOk result (λ asked. (command : List ℕ) → IsReport command (found_of matches.now) report → Asks command (found_of matches.now) asked) }
     ensures fit { IfOk result IsFit }
     ensures fault { IfErr result IsFault }
 {
@@ -265,7 +294,8 @@ fn reported<'a>(
 
 /// What `salvage` asks for.
 fn asked_to_salvage<'a>(matches: &ArgMatches<'a>) -> Asked<'a>
-    ensures { IsFit result }
+    ensures asked { Asks (codes "salvage") (found_of matches.now) result }
+    ensures fit { IsFit result }
 {
     let what = match (matches.get_str("output"), matches.get_str("data")) {
         (Some(output), _) => Salvage::Fork(output),
@@ -279,14 +309,18 @@ fn asked_to_salvage<'a>(matches: &ArgMatches<'a>) -> Asked<'a>
 }
 
 /// How `ls` shows the bytes of resources.
-fn bytes_shown(matches: &ArgMatches<'_>) -> Result<Bytes, Fault> {
-    let is_json = matches.get_flag("json");
+fn bytes_shown(matches: &ArgMatches<'_>) -> Result<Bytes, Fault>
+    ensures bytes { IfOk result (IsShownBytes (first_value (found_of matches.now) (codes "data"))) }
+    ensures text { IfOk result (λ shown. is_given (found_of matches.now) (codes "json") ≡ false → shown ≡ Bytes.Hidden) }
+    ensures json { IfOk result (λ shown. is_given (found_of matches.now) (codes "json") ≡ true → is_given (found_of matches.now) (codes "types") ≡ false) }
+{
+    let is_json = flag(matches, "json");
     let shown = match matches.get_str("data") {
         None => Bytes::Hidden,
         Some("base64") if is_json => Bytes::Base64,
         Some(_) => return Err(Fault::NoData),
     };
-    if is_json && matches.get_flag("types") {
+    if is_json && flag(matches, "types") {
         return Err(Fault::NoTypesJson);
     }
     Ok(shown)
@@ -298,6 +332,7 @@ fn shown<'a>(
     request: Request,
     matches: &ArgMatches<'a>,
 ) -> Result<Asked<'a>, NotAsked>
+    ensures asked { IfOk result (λ asked. (command : List ℕ) → IsRequest command (found_of matches.now) request → Asks command (found_of matches.now) asked) }
     ensures fit { IfOk result IsFit }
     ensures fault { IfErr result IsFault }
 {
@@ -312,6 +347,7 @@ fn shown<'a>(
 
 /// What `ls` asks for.
 fn asked_to_list<'a>(alloc: Global, matches: &ArgMatches<'a>) -> Result<Asked<'a>, NotAsked>
+    ensures asked { IfOk result (Asks (codes "ls") (found_of matches.now)) }
     ensures fit { IfOk result IsFit }
     ensures fault { IfErr result IsFault }
 {
@@ -330,7 +366,7 @@ fn asked_to_list<'a>(alloc: Global, matches: &ArgMatches<'a>) -> Result<Asked<'a
     if digests_of(matches) == Digests::Sha256 {
         return reported(alloc, Report::DigestList(choice), matches);
     }
-    if matches.get_flag("types") {
+    if flag(matches, "types") {
         shown(alloc, Request::Types(choice), matches)
     } else {
         shown(alloc, Request::List(choice), matches)
@@ -339,18 +375,20 @@ fn asked_to_list<'a>(alloc: Global, matches: &ArgMatches<'a>) -> Result<Asked<'a
 
 /// What `get` asks for.
 fn asked_to_get<'a>(alloc: Global, matches: &ArgMatches<'a>) -> Result<Asked<'a>, NotAsked>
+    ensures asked { IfOk result (Asks (codes "get") (found_of matches.now)) }
     ensures fit { IfOk result IsFit }
     ensures fault { IfErr result IsFault }
 {
     let kind = kind_named(alloc, word(matches, "type"))?;
     let key = key_named(alloc, word(matches, "key"))?;
-    let nth = nth_named(matches.get_str("nth").unwrap_or("1"))?;
+    let nth = nth_named(word_or(matches, "nth", "1"))?;
     shown(alloc, Request::Get(Wanted { kind, key, nth }), matches)
 }
 
 /// Which resources a type and an id or a name ask for, where they are given.
 fn chosen_by(alloc: Global, matches: &ArgMatches<'_>) -> Result<Chosen, NotAsked>
-    ensures { IfErr result IsFault }
+    ensures chosen { IfOk result (IsChosen (first_value (found_of matches.now) (codes "type")) (first_value (found_of matches.now) (codes "key"))) }
+    ensures fault { IfErr result IsFault }
 {
     let Some(word) = matches.get_str("type") else {
         return Ok(Chosen::All);
@@ -365,6 +403,7 @@ fn chosen_by(alloc: Global, matches: &ArgMatches<'_>) -> Result<Chosen, NotAsked
 
 /// What `show` asks for.
 fn asked_to_view<'a>(alloc: Global, matches: &ArgMatches<'a>) -> Result<Asked<'a>, NotAsked>
+    ensures asked { IfOk result (Asks (codes "show") (found_of matches.now)) }
     ensures fit { IfOk result IsFit }
     ensures fault { IfErr result IsFault }
 {
@@ -380,6 +419,7 @@ fn asked_to_view<'a>(alloc: Global, matches: &ArgMatches<'a>) -> Result<Asked<'a
 
 /// What `unpack` asks for.
 fn asked_to_unpack<'a>(alloc: Global, matches: &ArgMatches<'a>) -> Result<Asked<'a>, NotAsked>
+    ensures asked { IfOk result (Asks (codes "unpack") (found_of matches.now)) }
     ensures fit { IfOk result IsFit }
     ensures fault { IfErr result IsFault }
 {
@@ -395,7 +435,7 @@ fn asked_to_unpack<'a>(alloc: Global, matches: &ArgMatches<'a>) -> Result<Asked<
 
 /// The types that `-t` names.
 pub(crate) fn kinds_named(alloc: Global, matches: &ArgMatches<'_>) -> Result<Vec<ResType>, NotAsked>
-    ensures kinds { IfOk result (λ kinds. NameKinds (unwrap_or (option_map raw_values (matched_of (found_of matches.now) (codes "type"))) []) kinds.items) }
+    ensures kinds { IfOk result (λ kinds. NameKinds (words_of (found_of matches.now) (codes "type")) kinds.items) }
     ensures fault { IfErr result IsFault }
 {
     let mut kinds = Vec::new(alloc);
@@ -422,7 +462,8 @@ pub(crate) fn kind_named(alloc: Global, word: &str) -> Result<ResType, NotAsked>
 
 /// The id that a word names, or the name.
 fn key_named(alloc: Global, word: &str) -> Result<Key, NotAsked>
-    ensures { IfErr result IsFault }
+    ensures key { IfOk result (NamesKey word.now) }
+    ensures fault { IfErr result IsFault }
 {
     if let Ok(id) = word.parse::<i16>() {
         return Ok(Key::Id(id));
@@ -432,16 +473,22 @@ fn key_named(alloc: Global, word: &str) -> Result<Key, NotAsked>
 
 /// The name that a word shows.
 pub(crate) fn name_named(alloc: Global, word: &str) -> Result<Vec<u8>, NotAsked>
-    ensures { IfErr result IsFault }
+    ensures name { IfOk result (λ name. NamesName word.now name.items) }
+    ensures fault { IfErr result IsFault }
 {
     let Some(bytes) = bytes_of(alloc, word)? else {
         return Err(NotAsked::Fault(Fault::NoKey));
     };
-    name_of(alloc, bytes.as_slice())?.ok_or(NotAsked::Fault(Fault::NoKey))
+    match name_of(alloc, bytes.as_slice())? {
+        Some(name) => Ok(name),
+        None => Err(NotAsked::Fault(Fault::NoKey)),
+    }
 }
 
 /// How many resources to pass over, by a word that counts from 1.
-fn nth_named(word: &str) -> Result<usize, Fault> {
+fn nth_named(word: &str) -> Result<usize, Fault>
+    ensures { IfOk result (NamesNth word.now) }
+{
     match word.parse::<usize>() {
         Ok(nth) if nth > 0 => Ok(nth - 1),
         _ => Err(Fault::NoCount),

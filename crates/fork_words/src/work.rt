@@ -1,14 +1,17 @@
 //! The words of the commands that change files, and of those that compare them.
 
-ghost use Rattle.std.specs.Prelude.{◌≡◌, ℕ, List, codes, IfErr, IfOk, IfSome, None, Some, is_some, option_map, true};
+ghost use Rattle.std.specs.Prelude.{◌≡◌, ℕ, List, codes, IfErr, IfNone, IfOk, IfSome, None, Some, is_some, option_map, true};
 ghost use Rattle.std.specs.Borrow.{Bor};
 ghost use Rattle.clap.specs.Matches.{first_value, found_of};
 ghost use Rattle.fork_words.specs.Asks.{IsFault};
+ghost use Rattle.fork_words.specs.Changes.{AsksFor, IsNamed, container_word};
+ghost use Rattle.fork_words.specs.Given.{texts_of, words_of};
 ghost use Rattle.fork_words.specs.Inputs.{GoesElsewhere, IsInput, ReadsOnce};
-ghost use Rattle.fork_words.specs.Places.{IsCollision, IsFlag, IsNoPlace, IsPack, IsPlace, IsRez};
+ghost use Rattle.fork_words.specs.Named.{ChangeBits, ChangesBit, Each, IsAttributeChange, IsId, IsNameChange, NameBits, NameChoices, NamesBit, NamesChoice, NamesId, NamesIdOf, NamesOne, NamesResource, between_commas, no_change};
+ghost use Rattle.fork_words.specs.Places.{IsNoPlace, IsPlace, IsTarget, collision_of};
 
 use crate::INPUT;
-use crate::asked::{NotAsked, form_of, kind_named, kinds_named, name_named, word};
+use crate::asked::{NotAsked, flag, form_of, kind_named, kinds_named, name_named, word, word_or};
 use crate::fault::Fault;
 use bitflags::Flags;
 use clap::ArgMatches;
@@ -163,6 +166,7 @@ pub(crate) fn work_of<'a>(
     name: &str,
     matches: &ArgMatches<'a>,
 ) -> Result<Work<'a>, NotAsked>
+    ensures asked { IfOk result (AsksFor name.now (found_of matches.now)) }
     ensures once { IfOk result ReadsOnce }
     ensures fault { IfErr result IsFault }
 {
@@ -182,6 +186,7 @@ pub(crate) fn work_of<'a>(
 
 /// What `derez` asks for.
 fn derez<'a>(alloc: Global, matches: &ArgMatches<'a>) -> Result<Work<'a>, NotAsked>
+    ensures asked { IfOk result (AsksFor (codes "derez") (found_of matches.now)) }
     ensures once { IfOk result ReadsOnce }
     ensures fault { IfErr result IsFault }
 {
@@ -193,7 +198,7 @@ fn derez<'a>(alloc: Global, matches: &ArgMatches<'a>) -> Result<Work<'a>, NotAsk
 /// What `rez` asks for.
 fn rez<'a>(matches: &ArgMatches<'a>) -> Result<Work<'a>, Fault>
     ensures once { IfOk result ReadsOnce }
-    ensures asked { IfOk result (IsRez (found_of matches.now)) }
+    ensures asked { IfOk result (AsksFor (codes "rez") (found_of matches.now)) }
     ensures refused { IfErr result (IsNoPlace (found_of matches.now)) }
 {
     let text = word(matches, "file");
@@ -204,7 +209,7 @@ fn rez<'a>(matches: &ArgMatches<'a>) -> Result<Work<'a>, Fault>
 /// What `pack` asks for.
 fn pack<'a>(matches: &ArgMatches<'a>) -> Result<Work<'a>, Fault>
     ensures once { IfOk result ReadsOnce }
-    ensures asked { IfOk result (IsPack (found_of matches.now)) }
+    ensures asked { IfOk result (AsksFor (codes "pack") (found_of matches.now)) }
     ensures refused { IfErr result (IsNoPlace (found_of matches.now)) }
 {
     let folder = word(matches, "folder");
@@ -212,14 +217,14 @@ fn pack<'a>(matches: &ArgMatches<'a>) -> Result<Work<'a>, Fault>
     Ok(Work::Pack(Packing {
         folder,
         like: matches.get_str("like"),
-        adds: matches.get_flag("add"),
+        adds: flag(matches, "add"),
         place,
     }))
 }
 
 /// Where the resources of a text or of a folder go, by the words.
 fn place_of<'a>(matches: &ArgMatches<'a>, source: &'a str) -> Result<Place<'a>, Fault>
-    ensures place { IfOk result (IsPlace (found_of matches.now) source.entry) }
+    ensures place { IfOk result (IsPlace (found_of matches.now) source.entry.now) }
     ensures refused { IfErr result (IsNoPlace (found_of matches.now)) }
 {
     match (matches.get_str("into"), matches.get_str("output")) {
@@ -233,7 +238,7 @@ fn place_of<'a>(matches: &ArgMatches<'a>, source: &'a str) -> Result<Place<'a>, 
 fn place_in<'a>(matches: &ArgMatches<'a>, file: &'a str) -> Result<Place<'a>, Fault>
     requires into { first_value (found_of matches.now) (codes "into") ≡ Some file.now }
     requires alone { first_value (found_of matches.now) (codes "output") ≡ None }
-    ensures place { (source : Bor (List ℕ)) → IfOk result (IsPlace (found_of matches.now) source) }
+    ensures place { (source : List ℕ) → IfOk result (IsPlace (found_of matches.now) source) }
     ensures refused { IfErr result (IsNoPlace (found_of matches.now)) }
 {
     if file == INPUT {
@@ -250,7 +255,7 @@ fn place_in<'a>(matches: &ArgMatches<'a>, file: &'a str) -> Result<Place<'a>, Fa
 fn new_place<'a>(matches: &ArgMatches<'a>, source: &'a str) -> Result<Place<'a>, Fault>
     requires alone { first_value (found_of matches.now) (codes "into") ≡ None }
     requires named { is_some (first_value (found_of matches.now) (codes "output")) ≡ true }
-    ensures place { IfOk result (IsPlace (found_of matches.now) source.entry) }
+    ensures place { IfOk result (IsPlace (found_of matches.now) source.entry.now) }
     ensures refused { IfErr result (IsNoPlace (found_of matches.now)) }
 {
     let target = target_of(matches, source);
@@ -259,7 +264,7 @@ fn new_place<'a>(matches: &ArgMatches<'a>, source: &'a str) -> Result<Place<'a>,
     }
     Ok(Place::New {
         target,
-        is_forced: matches.get_flag("force"),
+        is_forced: flag(matches, "force"),
     })
 }
 
@@ -274,6 +279,7 @@ fn changed_target<'a>(
     other: Option<&str>,
 ) -> Result<Target<'a>, Fault>
     ensures file { IfOk result (λ target. target.file ≡ file.entry) }
+    ensures target { IfOk result (IsTarget (found_of matches.now) file.entry.now) }
     ensures elsewhere { IfOk result GoesElsewhere }
     ensures once { IfOk result (λ _. IsInput file.now → IfSome other.entry (λ name. ¬ IsInput name.now)) }
 {
@@ -293,22 +299,22 @@ fn changed_target<'a>(
 /// Where a file goes.
 fn target_of<'a>(matches: &ArgMatches<'a>, file: &'a str) -> Target<'a>
     ensures file { result.file ≡ file.entry }
-    ensures output { option_map (λ name. name.now) result.output ≡ first_value (found_of matches.now) (codes "output") }
-    ensures keeps_old { IsFlag (found_of matches.now) (codes "backup") result.keeps_old }
-    ensures is_dry { IsFlag (found_of matches.now) (codes "dry") result.is_dry }
-    ensures is_quiet { IsFlag (found_of matches.now) (codes "quiet") result.is_quiet }
+    ensures target { IsTarget (found_of matches.now) file.entry.now result }
 {
     Target {
         file,
         output: matches.get_str("output"),
-        keeps_old: matches.get_flag("backup"),
-        is_dry: matches.get_flag("dry"),
-        is_quiet: matches.get_flag("quiet"),
+        keeps_old: flag(matches, "backup"),
+        is_dry: flag(matches, "dry"),
+        is_quiet: flag(matches, "quiet"),
     }
 }
 
 /// The id that a word names.
-fn id_named(word: &str) -> Result<i16, Fault> {
+fn id_named(word: &str) -> Result<i16, Fault>
+    ensures id { IfOk result (NamesId word.now) }
+    ensures refused { IfErr result (λ why. (why ≡ Fault.NoId) × ¬ IsId word.now) }
+{
     match word.parse::<i16>() {
         Ok(id) => Ok(id),
         Err(_) => Err(Fault::NoId),
@@ -317,7 +323,8 @@ fn id_named(word: &str) -> Result<i16, Fault> {
 
 /// The type and the id that two words name.
 fn resource_named(alloc: Global, kind: &str, id: &str) -> Result<ResourceId, NotAsked>
-    ensures { IfErr result IsFault }
+    ensures resource { IfOk result (NamesResource kind.now id.now) }
+    ensures fault { IfErr result IsFault }
 {
     let kind = kind_named(alloc, kind)?;
     let id = id_named(id)?;
@@ -326,9 +333,10 @@ fn resource_named(alloc: Global, kind: &str, id: &str) -> Result<ResourceId, Not
 
 /// What becomes of a resource's name.
 fn name_change(alloc: Global, matches: &ArgMatches<'_>) -> Result<NameChange, NotAsked>
-    ensures { IfErr result IsFault }
+    ensures name { IfOk result (IsNameChange (found_of matches.now)) }
+    ensures fault { IfErr result IsFault }
 {
-    if matches.get_flag("no-name") {
+    if flag(matches, "no-name") {
         return Ok(NameChange::Clear);
     }
     let Some(word) = matches.get_str("name") else {
@@ -342,7 +350,9 @@ fn name_change(alloc: Global, matches: &ArgMatches<'_>) -> Result<NameChange, No
 }
 
 /// The attribute of a word, as a list of resources shows it.
-fn attribute_named(word: &str) -> Option<ResAttrs> {
+fn attribute_named(word: &str) -> Option<ResAttrs>
+    ensures { IfSome result (λ attribute. NamesBit word.now attribute.0) }
+{
     match word {
         "bit7" => Some(ResAttrs::from_bits_retain(1 << 7)),
         "sysHeap" => Some(ResAttrs::SYS_HEAP),
@@ -357,7 +367,9 @@ fn attribute_named(word: &str) -> Option<ResAttrs> {
 }
 
 /// The change of no attribute.
-fn no_change() -> AttributeChange {
+fn no_change() -> AttributeChange
+    ensures { result ≡ no_change }
+{
     AttributeChange {
         take: ResAttrs::empty(),
         add: ResAttrs::empty(),
@@ -365,7 +377,9 @@ fn no_change() -> AttributeChange {
 }
 
 /// The change after one more word, which has a sign: `+WORD` sets an attribute, and `-WORD` clears it.
-fn with_signed(change: AttributeChange, word: &str) -> Option<AttributeChange> {
+fn with_signed(change: AttributeChange, word: &str) -> Option<AttributeChange>
+    ensures { IfSome result (ChangesBit change word.now) }
+{
     let mut change = change;
     if let Some(word) = word.strip_prefix("+") {
         let attribute = attribute_named(word)?;
@@ -380,25 +394,31 @@ fn with_signed(change: AttributeChange, word: &str) -> Option<AttributeChange> {
 }
 
 /// The change of the attributes that words with signs and commas between them name; the others stay.
-fn signed_change(words: &str) -> Option<AttributeChange> {
+fn signed_change(words: &str) -> Option<AttributeChange>
+    ensures { IfSome result (ChangeBits no_change (between_commas words.now)) }
+{
     let mut change = no_change();
-    for word in words.split(",") {
+    for word in words.split(',') {
         change = with_signed(change, word)?;
     }
     Some(change)
 }
 
 /// The attributes that words with commas between them name.
-fn attributes_named(words: &str) -> Option<ResAttrs> {
+fn attributes_named(words: &str) -> Option<ResAttrs>
+    ensures { IfSome result (λ attributes. NameBits 0 (between_commas words.now) attributes.0) }
+{
     let mut attributes = ResAttrs::empty();
-    for word in words.split(",") {
+    for word in words.split(',') {
         attributes.insert(attribute_named(word)?);
     }
     Some(attributes)
 }
 
 /// The change of attributes that words name: of all, or of some, where each word has a sign.
-fn change_named(words: &str) -> Option<AttributeChange> {
+fn change_named(words: &str) -> Option<AttributeChange>
+    ensures { IfSome result (IsAttributeChange (Some words.now)) }
+{
     if words.starts_with("+") || words.starts_with("-") {
         return signed_change(words);
     }
@@ -409,7 +429,9 @@ fn change_named(words: &str) -> Option<AttributeChange> {
 }
 
 /// What becomes of a resource's attributes.
-fn attribute_change(matches: &ArgMatches<'_>) -> Result<AttributeChange, Fault> {
+fn attribute_change(matches: &ArgMatches<'_>) -> Result<AttributeChange, Fault>
+    ensures { IfOk result (IsAttributeChange (first_value (found_of matches.now) (codes "attrs"))) }
+{
     match matches.get_str("attrs") {
         None => Ok(no_change()),
         Some("-") => Ok(AttributeChange {
@@ -422,6 +444,7 @@ fn attribute_change(matches: &ArgMatches<'_>) -> Result<AttributeChange, Fault> 
 
 /// What `put` asks for.
 fn put<'a>(alloc: Global, matches: &ArgMatches<'a>) -> Result<Work<'a>, NotAsked>
+    ensures asked { IfOk result (AsksFor (codes "put") (found_of matches.now)) }
     ensures once { IfOk result ReadsOnce }
     ensures fault { IfErr result IsFault }
 {
@@ -437,8 +460,8 @@ fn put<'a>(alloc: Global, matches: &ArgMatches<'a>) -> Result<Work<'a>, NotAsked
             attributes,
         },
         input,
-        is_new: matches.get_flag("new"),
-        creates: matches.get_flag("create"),
+        is_new: flag(matches, "new"),
+        creates: flag(matches, "create"),
         target,
     }))
 }
@@ -449,7 +472,8 @@ fn resources_named(
     kind: ResType,
     words: &[&str],
 ) -> Result<Vec<ResourceId>, NotAsked>
-    ensures { IfErr result IsFault }
+    ensures whats { IfOk result (λ whats. Each (NamesIdOf kind) (texts_of words.now) whats.items) }
+    ensures fault { IfErr result IsFault }
 {
     let mut whats = Vec::new(alloc);
     for word in words {
@@ -463,6 +487,7 @@ fn resources_named(
 
 /// What `rm` asks for.
 fn remove<'a>(alloc: Global, matches: &ArgMatches<'a>) -> Result<Work<'a>, NotAsked>
+    ensures asked { IfOk result (AsksFor (codes "rm") (found_of matches.now)) }
     ensures once { IfOk result ReadsOnce }
     ensures fault { IfErr result IsFault }
 {
@@ -474,13 +499,14 @@ fn remove<'a>(alloc: Global, matches: &ArgMatches<'a>) -> Result<Work<'a>, NotAs
 
 /// What `set` asks for.
 fn set<'a>(alloc: Global, matches: &ArgMatches<'a>) -> Result<Work<'a>, NotAsked>
+    ensures asked { IfOk result (AsksFor (codes "set") (found_of matches.now)) }
     ensures once { IfOk result ReadsOnce }
     ensures fault { IfErr result IsFault }
 {
     let old_kind = word(matches, "old-type");
     let old_id = word(matches, "old-id");
-    let kind = matches.get_str("type").unwrap_or(old_kind);
-    let id = matches.get_str("id").unwrap_or(old_id);
+    let kind = word_or(matches, "type", old_kind);
+    let id = word_or(matches, "id", old_id);
     let to = resource_named(alloc, kind, id)?;
     let name = name_change(alloc, matches)?;
     let what = resource_named(alloc, old_kind, old_id)?;
@@ -497,27 +523,46 @@ fn set<'a>(alloc: Global, matches: &ArgMatches<'a>) -> Result<Work<'a>, NotAsked
     }))
 }
 
+/// The word for a type and the id, where a word of `cp` is TYPE:ID.
+fn one_named(word: &str) -> Option<(&str, i16)>
+    ensures one { IfSome result (λ one. (id : List ℕ) × NamesOne word.now one.0.now id × NamesId id one.1) }
+    ensures none { IfNone result ((kind id : List ℕ) → ¬ NamesOne word.now kind id) }
+{
+    if word.len() == KIND_LENGTH {
+        return None;
+    }
+    let Some((kind, id)) = word.rsplit_once(":") else {
+        return None;
+    };
+    match id_named(id) {
+        Ok(id) => Some((kind, id)),
+        Err(_) => None,
+    }
+}
+
 /// Which resources a word of `cp` names: TYPE, or TYPE:ID.
 fn choice_named(alloc: Global, word: &str) -> Result<Choice, NotAsked>
-    ensures { IfErr result IsFault }
+    ensures choice { IfOk result (NamesChoice word.now) }
+    ensures fault { IfErr result IsFault }
 {
-    if word.len() != KIND_LENGTH
-        && let Some((kind, id)) = word.rsplit_once(":")
-        && let Ok(id) = id.parse::<i16>()
-    {
-        let kind = kind_named(alloc, kind)?;
-        return Ok(Choice::One(ResourceId { kind, id }));
+    match one_named(word) {
+        Some((kind, id)) => {
+            let kind = kind_named(alloc, kind)?;
+            Ok(Choice::One(ResourceId { kind, id }))
+        }
+        None => Ok(Choice::Kind(kind_named(alloc, word)?)),
     }
-    Ok(Choice::Kind(kind_named(alloc, word)?))
 }
 
 /// Which resources words of `cp` name: all where there are none.
 fn choices_named(alloc: Global, words: &[&str]) -> Result<Vec<Choice>, NotAsked>
-    ensures { IfErr result IsFault }
+    ensures chosen { IfOk result (λ chosen. NameChoices (texts_of words.now) chosen.items) }
+    ensures fault { IfErr result IsFault }
 {
     let mut chosen = Vec::new(alloc);
     if words.is_empty() {
         chosen.push(Choice::All).map_err(AllocError::from)?;
+        return Ok(chosen);
     }
     for word in words {
         let choice = choice_named(alloc, word)?;
@@ -528,13 +573,13 @@ fn choices_named(alloc: Global, words: &[&str]) -> Result<Vec<Choice>, NotAsked>
 
 /// What becomes of a resource that is copied where its type and id are there.
 fn collision_of(matches: &ArgMatches<'_>) -> Collision
-    ensures { IsCollision (found_of matches.now) result }
+    ensures { result ≡ collision_of (found_of matches.now) }
 {
-    if matches.get_flag("replace") {
+    if flag(matches, "replace") {
         Collision::Replace
-    } else if matches.get_flag("skip") {
+    } else if flag(matches, "skip") {
         Collision::Skip
-    } else if matches.get_flag("renumber") {
+    } else if flag(matches, "renumber") {
         Collision::Renumber
     } else {
         Collision::Refuse
@@ -543,6 +588,7 @@ fn collision_of(matches: &ArgMatches<'_>) -> Collision
 
 /// What `cp` asks for.
 fn copy<'a>(alloc: Global, matches: &ArgMatches<'a>) -> Result<Work<'a>, NotAsked>
+    ensures asked { IfOk result (AsksFor (codes "cp") (found_of matches.now)) }
     ensures once { IfOk result ReadsOnce }
     ensures fault { IfErr result IsFault }
 {
@@ -562,7 +608,8 @@ fn copy<'a>(alloc: Global, matches: &ArgMatches<'a>) -> Result<Work<'a>, NotAske
 
 /// What `diff` asks for.
 fn compare<'a>(matches: &ArgMatches<'a>) -> Result<Work<'a>, Fault>
-    ensures { IfOk result ReadsOnce }
+    ensures asked { IfOk result (AsksFor (codes "diff") (found_of matches.now)) }
+    ensures once { IfOk result ReadsOnce }
 {
     let a = word(matches, "a");
     let b = word(matches, "b");
@@ -574,7 +621,9 @@ fn compare<'a>(matches: &ArgMatches<'a>) -> Result<Work<'a>, Fault>
 }
 
 /// The container that a word names.
-fn kind_of_container(word: &str) -> Result<Kind, Fault> {
+fn kind_of_container(word: &str) -> Result<Kind, Fault>
+    ensures { IfOk result (λ kind. container_word kind ≡ word.now) }
+{
     match word {
         "raw" => Ok(Kind::Raw),
         "appledouble" => Ok(Kind::AppleDouble),
@@ -585,15 +634,24 @@ fn kind_of_container(word: &str) -> Result<Kind, Fault> {
     }
 }
 
+/// The name of a new file, where one is given.
+fn new_name(alloc: Global, matches: &ArgMatches<'_>) -> Result<Option<Vec<u8>>, NotAsked>
+    ensures name { IfOk result (λ name. IsNamed (first_value (found_of matches.now) (codes "name")) (option_map (λ bytes. bytes.items) name)) }
+    ensures fault { IfErr result IsFault }
+{
+    match matches.get_str("name") {
+        Some(word) => Ok(Some(name_named(alloc, word)?)),
+        None => Ok(None),
+    }
+}
+
 /// What `convert` asks for.
 fn convert<'a>(alloc: Global, matches: &ArgMatches<'a>) -> Result<Work<'a>, NotAsked>
+    ensures asked { IfOk result (AsksFor (codes "convert") (found_of matches.now)) }
     ensures once { IfOk result ReadsOnce }
     ensures fault { IfErr result IsFault }
 {
-    let name = matches
-        .get_str("name")
-        .map(|word| name_named(alloc, word))
-        .transpose()?;
+    let name = new_name(alloc, matches)?;
     let data = matches.get_str("data");
     let file = word(matches, "file");
     if file == INPUT && data == Some(INPUT) {
@@ -604,7 +662,7 @@ fn convert<'a>(alloc: Global, matches: &ArgMatches<'a>) -> Result<Work<'a>, NotA
         kind,
         data,
         name,
-        is_lossy: matches.get_flag("lossy"),
+        is_lossy: flag(matches, "lossy"),
         target: target_of(matches, file),
     }))
 }

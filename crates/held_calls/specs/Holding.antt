@@ -91,7 +91,7 @@ LoanSteps old held call outcome new new_held = LoanStep old.shape (loans_of held
 
 -- the window is on the bytes of a loan: it begins where they are in the memory of the host, and has as many
 abbrev pub IsOn : Loan → Window → Type 0
-IsOn loan window = (window.start ≡ loan.name +ₚ loan.at) × (window.length ≡ length loan.bytes)
+IsOn loan window = (window.start ≡ loan.name.0 +ₚ loan.at) × (window.length ≡ length loan.bytes)
 
 -- the window is on the loan of x, which could be taken out
 abbrev pub IsOnLoan : ℕ → List Held → Window → Type 0

@@ -1,5 +1,5 @@
 -- The guest's fields of a zone's header among its bytes.
-use Rattle.std.proofs.Common.{◌≡◌, ◌∙◌, ℕ, ◌+◌, ◌≤◌, List, [], ◌∷◌, ◌++◌, length, take, drop, refl, sym, ap, subst, arith, append_assoc, length-append, length-drop, take-append-drop, drop-drop}
+use Rattle.std.proofs.Common.{◌≡◌, ◌∙◌, ℕ, ◌+◌, ◌≤◌, List, [], ◌∷◌, ◌++◌, length, take, take_all, drop, refl, sym, ap, subst, arith, append_assoc, length-append, length-drop, take-append-drop, drop-drop}
 use Rattle.byteorder.specs.Endian.{big_bytes}
 use Rattle.mac_base.specs.HeadKind.{slot_count, zone_header}
 use Rattle.block_bytes.specs.ZoneHead.{zeros, zone_head}
@@ -15,7 +15,6 @@ use Rattle.block_bytes.specs.Layout.{Layout, address_after, first_free, free_tot
 use Rattle.zone_records.specs.Image.{HasBytes}
 use Rattle.linked_zone.specs.Owned.{records_of}
 use Rattle.linked_zone.specs.Structure.{IsIn}
-use Rattle.mem_calls.proofs.FlagsTaken.{part-all, written-all}
 use Rattle.held_zone.specs.declared.fields.GuestFields.{GuestFields}
 use Rattle.held_zone.specs.Fields.{AreFields, fielded, fields_in, managed, managed_in, new_fields, with_fields}
 
@@ -102,12 +101,12 @@ managed-fielded g r are long same = ap (λ (xs : List ℕ). let now : Region = r
 pub fielded-back : (r : Region) → zone_header ≤ length r.bytes → fielded (fields_in r.bytes) (managed_in r) ≡ r
 fielded-back r long = ap (λ (xs : List ℕ). let now : Region = record r { bytes = xs } in now) (put-back r.bytes long)
 
--- fields that are written over all bytes of a region
-pub written-fields : (g : GuestFields) (r : Region) (given new : List ℕ) (n : ℕ) → n ≡ length r.bytes → given ≡ part r.bytes 0 n → new ≡ with_fields g given → with_bytes r 0 (take n new) ≡ fielded g r
-written-fields g r given new n all was is =
-    let own : given ≡ r.bytes = was ∙ part-all r.bytes n all in
-    let long : length new ≡ length r.bytes = ap length is ∙ length-with g given ∙ ap length own in
-    ap (λ (xs : List ℕ). let now : Region = record r { bytes = xs } in now) (written-all r.bytes new n all long ∙ is ∙ ap (with_fields g) own)
+-- fields that are written in their places in a region
+pub written-fields : (g : GuestFields) (r : Region) (purge others : List ℕ) → AreFields g → purge ≡ g.purge_ptr → others ≡ g.others → with_bytes (with_bytes r 4 (take 4 purge)) 16 (take 32 others) ≡ fielded g r
+written-fields g r purge others are is_purge is_others =
+    let one : take 4 purge ≡ g.purge_ptr = take_all 4 purge (omega (arith, ap length is_purge, are.purge_ptr)) ∙ is_purge in
+    let two : take 32 others ≡ g.others = take_all 32 others (omega (arith, ap length is_others, are.others)) ∙ is_others in
+    ap (λ (xs : List ℕ). let now : Region = record r { bytes = xs } in now) (λ j. written (written r.bytes 4 (one j)) 16 (two j))
 
 -- bytes of a zone have the fields of a new one
 pub managed-image : (z : ZoneState) (image rest : List ℕ) → HasBytes (records_of z) image → managed (image ++ rest) ≡ image ++ rest

@@ -22,7 +22,11 @@ use Rattle.held_zone.specs.State.{State}
 
 -- the region that the host's bytes are, if they are here
 abbrev pub region_of : HostBytes → Option Region
-region_of h = option_map (λ bytes. record { name = h.at; bytes = bytes; lent = [] }) h.bytes
+region_of h = option_map (λ bytes. record { name = (h.at, bytes); bytes = bytes; lent = [] }) h.bytes
+
+-- a region as the host's bytes are once it is given back: its first bytes are those that it has then
+abbrev pub anew : Region → Region
+anew r = record r { name = (r.name.0, r.bytes) }
 
 -- whether no number is there twice
 abbrev pub each_once : List ℕ → Bool

@@ -16,14 +16,20 @@ const PURGE_PTR_FIELD: usize = 4;
 /// Where it has gzProc, the first of the other fields of the guest.
 const GZ_PROC_FIELD: usize = 16;
 
+/// How many bytes purgePtr has.
+const PURGE_PTR_SIZE: usize = 4;
+
+/// How many the others have, from gzProc to sparePtr.
+const OTHERS_SIZE: usize = 32;
+
 /// Where moreMast is among these.
 const MORE_MAST: usize = 4;
 
 /// The fields of a zone's header that are the guest's: purgePtr, and those from gzProc to sparePtr.
 #[derive(Clone, Copy)]
 pub struct GuestFields {
-    purge_ptr: [u8; 4],
-    others: [u8; 32],
+    purge_ptr: [u8; PURGE_PTR_SIZE],
+    others: [u8; OTHERS_SIZE],
 }
 
 /// Copies the bytes from `start` on over as many others.
@@ -47,10 +53,10 @@ impl GuestFields {
     pub fn new() -> GuestFields
         ensures { result ≡ new_fields }
     {
-        let mut others = [0; 32];
+        let mut others = [0; OTHERS_SIZE];
         BigEndian::write_u16(&mut others[MORE_MAST..], SLOT_COUNT as u16);
         GuestFields {
-            purge_ptr: [0; 4],
+            purge_ptr: [0; PURGE_PTR_SIZE],
             others,
         }
     }
@@ -60,8 +66,8 @@ impl GuestFields {
         requires { zone_header ≤ length bytes.now }
         ensures { result ≡ fields_in bytes.now }
     {
-        let mut purge_ptr = [0; 4];
-        let mut others = [0; 32];
+        let mut purge_ptr = [0; PURGE_PTR_SIZE];
+        let mut others = [0; OTHERS_SIZE];
         read_at(bytes, PURGE_PTR_FIELD, &mut purge_ptr);
         read_at(bytes, GZ_PROC_FIELD, &mut others);
         GuestFields { purge_ptr, others }
@@ -76,15 +82,20 @@ impl GuestFields {
         write_at(bytes, GZ_PROC_FIELD, &self.others);
     }
 
-    /// Writes them in their places in a region.
+    /// Writes them in their places in a region, and no other byte.
+    #[tactic(auto, using(raw_region::proofs::Rules::upkeep))]
     pub(crate) fn write_in(&self, region: &mut Region)
         requires whole { region.old.lent ≡ [] }
         requires long { zone_header ≤ length region.old.bytes }
         ensures region { region.new ≡ fielded self.now region.old }
         ensures fields { AreFields self.now }
     {
-        let all = region.len();
-        self.write(region.bytes_mut(0, all));
+        region
+            .bytes_mut(PURGE_PTR_FIELD, PURGE_PTR_SIZE)
+            .copy_from_slice(&self.purge_ptr);
+        region
+            .bytes_mut(GZ_PROC_FIELD, OTHERS_SIZE)
+            .copy_from_slice(&self.others);
     }
 }
 

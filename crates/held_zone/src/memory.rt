@@ -2,7 +2,7 @@
 
 ghost use Rattle.std.specs.Prelude.{◌≡◌, [], None, Some, IfSome};
 ghost use Rattle.raw_region.specs.Hosts.{are_there};
-ghost use Rattle.held_zone.specs.Asleep.{region_of};
+ghost use Rattle.held_zone.specs.Asleep.{anew, region_of};
 
 use raw_region::{HostBytes, Region};
 use std::mem;
@@ -32,6 +32,7 @@ impl MhMemory {
     fn opened(self) -> Option<Region>
         ensures region { result ≡ region_of self.host }
         ensures whole { IfSome result (λ region. region.lent ≡ []) }
+        ensures fresh { IfSome result (λ region. region.name.1 ≡ region.bytes) }
     {
         let MhMemory { host, here } = self;
         if !here {
@@ -44,17 +45,28 @@ impl MhMemory {
     pub fn take(&mut self) -> Option<Region>
         ensures given { result ≡ region_of self.old.host }
         ensures whole { IfSome result (λ region. region.lent ≡ []) }
+        ensures fresh { IfSome result (λ region. region.name.1 ≡ region.bytes) }
         ensures gone { region_of self.new.host ≡ None }
     {
         let before = mem::replace(self, MhMemory::none());
         before.opened()
     }
 
-    /// Gives the bytes back, which are gone.
+    /// Gives the bytes back, which are gone, as they were when they were taken.
     pub fn put(&mut self, region: Region)
         requires gone { region_of self.old.host ≡ None }
         requires whole { region.lent ≡ [] }
+        requires fresh { region.name.1 ≡ region.bytes }
         ensures { region_of self.new.host ≡ Some region }
+    {
+        self.put_written(region);
+    }
+
+    /// Gives the bytes back, which are gone, with what was written in them.
+    pub fn put_written(&mut self, region: Region)
+        requires gone { region_of self.old.host ≡ None }
+        requires whole { region.lent ≡ [] }
+        ensures { region_of self.new.host ≡ Some (anew region) }
     {
         *self = MhMemory {
             host: region.hand_back(),

@@ -44,6 +44,7 @@ impl Session {
     pub fn limit(&self) -> usize
         ensures value { result ≡ self.now.zone.shape.limit }
         ensures large { zone_header ≤ result }
+        ensures small { result ≤ 0x4000_0000 }
     {
         self.memory.linked().spec().limit() as usize
     }
@@ -246,6 +247,7 @@ impl Session {
     pub fn sleep(&mut self) -> Result<Region, OsErr>
         ensures given { IfOk result (λ region. IsGivenBack self.old region self.new) }
         ensures whole { IfOk result (λ region. region.lent ≡ []) }
+        ensures long { IfOk result (λ region. length region.bytes ≡ self.old.zone.shape.limit) }
         ensures refusal { result_err result ≡ sleep_refusal self.old }
         ensures unchanged { OnErr result (self.new ≡ self.old) }
     {

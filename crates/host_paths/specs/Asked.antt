@@ -12,6 +12,7 @@ use Rattle.host_paths.specs.declared.host.HostCall.{HostCall}
 use Rattle.host_paths.specs.declared.host.HostCall.TheVariants.{At, Over, Of, Open, Lock}
 use Rattle.host_paths.specs.declared.host.Locking.{Locking}
 use Rattle.host_paths.specs.declared.host.Locking.TheVariants.{Taken}
+use Rattle.host_paths.specs.declared.host.Syncing.{Syncing}
 use Rattle.host_paths.specs.declared.identity.Identity.{Identity}
 
 -- the calls, the newest first
@@ -38,6 +39,11 @@ opened (Err error) = None
 abbrev pub lock_answer : {E : Type 0} → Result Locking E → Option Locking
 lock_answer (Ok locking) = Some locking
 lock_answer (Err error) = None
+
+-- how a file was synced, if the call didn't fail
+abbrev pub sync_answer : {E : Type 0} → Result Syncing E → Option Syncing
+sync_answer (Ok syncing) = Some syncing
+sync_answer (Err error) = None
 
 -- a regular file
 abbrev pub is_regular : FileKind → Bool

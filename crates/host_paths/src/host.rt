@@ -2,8 +2,8 @@
 //! is said of them rests on this: each function here that notes a call makes that one and no other.
 
 ghost use Rattle.std.specs.Prelude.{◌≡◌, ◌∷◌, is_ok};
-ghost use Rattle.host_paths.specs.Asked.{answer_of, is_folder, is_regular, lock_answer, opened, said_of, same_file};
-ghost use Rattle.host_paths.specs.declared.host.HostCall.TheVariants.{At, Lock, Make, Of, Open, Over, Remove, Rename};
+ghost use Rattle.host_paths.specs.Asked.{answer_of, is_folder, is_regular, lock_answer, opened, said_of, same_file, sync_answer};
+ghost use Rattle.host_paths.specs.declared.host.HostCall.TheVariants.{At, Lock, Make, Of, Open, OpenOrMake, Over, Remove, Rename, Sync};
 
 use fork_disk::Record;
 use std::collections::LinkedList;
@@ -68,6 +68,15 @@ pub enum Locking {
     NotOffered,
 }
 
+/// What the system answers where it is asked to sync a file or a folder.
+#[derive(Clone, Copy, PartialEq, Eq)]
+pub enum Syncing {
+    /// A crash leaves it as it is.
+    Done,
+    /// The file system offers no sync of it.
+    NotOffered,
+}
+
 /// A call of the system, with its answer.
 #[derive(Drop)]
 pub enum HostCall {
@@ -79,8 +88,13 @@ pub enum HostCall {
     Of(File, Answer),
     /// It was to open what this path leads to. Nothing is made or emptied.
     Open(Access, LinkedList<u8>, Option<File>),
+    /// It was to open what this path leads to, to read and to write it, and to make it where there is nothing. Nothing
+    /// is emptied.
+    OpenOrMake(LinkedList<u8>, Option<File>),
     /// It was to lock this file, without waiting.
     Lock(File, Option<Locking>),
+    /// It was to sync this file or folder.
+    Sync(File, Option<Syncing>),
     /// It was to make a file of this mode at this path, which has nothing.
     Make(u32, LinkedList<u8>, Option<File>),
     /// It was to rename what is at the first path to the second, and whether it did.
@@ -213,6 +227,19 @@ pub fn open(rt: &HostRuntime, path: &str, access: Access, log: &mut HostCalls) -
     file
 }
 
+/// Opens what a path leads to, to read and to write it. A missing file is made, empty. Nothing is emptied.
+pub fn open_or_make(rt: &HostRuntime, path: &str, log: &mut HostCalls) -> io::Result<File>
+    ensures { log.new.events ≡ OpenOrMake path.now (opened result) ∷ log.old.events }
+{
+    let file = OpenOptions::new()
+        .read(true)
+        .write(true)
+        .create(true)
+        .open(rt, path);
+    *log = Record::of_events_beside(log, &path, &file);
+    file
+}
+
 /// Locks an open file against others that do so, without waiting.
 pub fn lock(file: &File, log: &mut HostCalls) -> io::Result<Locking>
     ensures { log.new.events ≡ Lock file.now (lock_answer result) ∷ log.old.events }
@@ -227,6 +254,24 @@ pub fn lock(file: &File, log: &mut HostCalls) -> io::Result<Locking>
     };
     *log = Record::of_events_beside(log, file, &locking);
     locking
+}
+
+/// Makes an open file or folder stable, so that a crash leaves it as it is, if that is offered.
+pub fn sync(file: &File, log: &mut HostCalls) -> io::Result<Syncing>
+    ensures { log.new.events ≡ Sync file.now (sync_answer result) ∷ log.old.events }
+{
+    let syncing = match file.sync_all() {
+        Ok(()) => Ok(Syncing::Done),
+        Err(error) if is_not_offered(error.kind()) => Ok(Syncing::NotOffered),
+        Err(error) => Err(error),
+    };
+    *log = Record::of_events_beside(log, file, &syncing);
+    syncing
+}
+
+/// Whether an error of this kind says that the file system doesn't offer a call.
+fn is_not_offered(kind: ErrorKind) -> bool {
+    matches!(kind, ErrorKind::InvalidInput | ErrorKind::Unsupported)
 }
 
 /// Makes an empty file of a mode at a path that has none.

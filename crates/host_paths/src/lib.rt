@@ -9,8 +9,8 @@ mod links;
 
 pub use beside::Beside;
 pub use host::{
-    Access, Answer, FileKind, Found, HostCall, HostCalls, Locking, found_at, found_of, found_over,
-    lock, open,
+    Access, Answer, FileKind, Found, HostCall, HostCalls, Locking, Syncing, found_at, found_of,
+    found_over, lock, open, open_or_make, sync,
 };
 pub use identity::Identity;
 pub use limits::{longest_file, this_user, write_whole};

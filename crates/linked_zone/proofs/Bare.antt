@@ -51,13 +51,13 @@ bare-stands r memory sizes possible is =
       high = possible.end_low_enough;
     }
   where
-    whole : (n : ℕ) → n % 4 ≡ 0 → 1024 ≤ n → ((n - 52) % 4 == 0) ≡ true
+    whole : (n : ℕ) → n % 4 ≡ 0 → 512 ≤ n → ((n - 52) % 4 == 0) ≡ true
     whole n even large = grind (arith, nat_tests)
 
-    above : (heads : HeadKind) (n : ℕ) → 1024 ≤ n → nat_le (smallest_block heads) (n - 52) ≡ true
+    above : (heads : HeadKind) (n : ℕ) → 512 ≤ n → nat_le (smallest_block heads) (n - 52) ≡ true
     above Bits24 n large = grind (arith, nat_tests)
     above Bits32 n large = grind (arith, nat_tests)
 
-    room : (heads : HeadKind) (n : ℕ) → 972 ≤ n → ((nat_lt (head_size heads) n && true) && true) ≡ true
+    room : (heads : HeadKind) (n : ℕ) → 460 ≤ n → ((nat_lt (head_size heads) n && true) && true) ≡ true
     room Bits24 n h = grind (arith, nat_tests)
     room Bits32 n h = grind (arith, nat_tests)

@@ -24,7 +24,7 @@ usual_possible z usual = record {
   even_base = usual.even_base;
   even_size = usual.even_size;
   even_limit = usual.even_limit;
-  large_enough = usual.large_enough;
+  large_enough = (let enough = usual.large_enough in omega arith);
   small_enough = (let few = usual.small_enough in omega arith);
   within = usual.within;
   growth = usual.growth;

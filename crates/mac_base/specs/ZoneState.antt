@@ -5,18 +5,23 @@ use Rattle.mac_base.specs.HandleTable.{with_bytes, bytes_of}
 use Rattle.mac_base.specs.Heap.{Heap, with_table}
 use denote.RawPtr.{Ptr}
 
--- which memory of the host a zone is in, named as a loan of one of its blocks names it; and, while it is awake there,
--- in bytes of others, the memory that it slept in, which is kept as the record of its structure
+-- memory of the host, as a loan of a part of it names it: where its first byte is, and the bytes that it had when it was
+-- taken
+abbrev pub Name : Type 0
+Name = Ptr × List ℕ
+
+-- which memory of the host a zone is in; and, while it is awake there, in bytes of others, the memory that it slept in,
+-- which is kept as the record of its structure
 pub record Memory : Type 0 where
-  pub region : Ptr
-  pub kept : Option Ptr
+  pub region : Name
+  pub kept : Option Name
 
 -- memory of the zone's own
-abbrev pub own_memory : Ptr → Memory
+abbrev pub own_memory : Name → Memory
 own_memory region = record { region = region; kept = None }
 
 -- bytes of others, in which a zone wakes that slept in this memory
-abbrev pub woken_in : Memory → Ptr → Memory
+abbrev pub woken_in : Memory → Name → Memory
 woken_in slept region = record { region = region; kept = Some slept.region }
 
 -- the memory that a zone is in, where it lies and how far it may grow, and its heap

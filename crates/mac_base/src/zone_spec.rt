@@ -5,8 +5,11 @@ use std::error::Error;
 use std::fmt;
 use std::marker::Model;
 
-/// The least size of a zone, in bytes.
-pub const LEAST_SIZE: u32 = 1024;
+/// The least size of any zone, in bytes: a master block has room in it.
+pub const LEAST_SIZE: u32 = 512;
+
+/// The least size of a usual zone, in bytes.
+pub const USUAL_SIZE: u32 = 1024;
 
 /// The largest limit of a zone that isn't large, in bytes.
 pub const USUAL_LIMIT: u32 = 0x10_0000;
@@ -33,7 +36,7 @@ pub enum BadSpec {
     /// The limit is no multiple of 4.
     UnevenLimit(u32),
     /// The size is below the least.
-    SmallSize(u32),
+    SmallSize { size: u32, least: u32 },
     /// The limit is above the largest.
     LargeLimit { limit: u32, most: u32 },
     /// The size is above the limit.
@@ -61,9 +64,9 @@ impl fmt::Display for BadSpec {
                 f,
                 "a zone's limit is a multiple of 4 bytes, and {limit} is none"
             ),
-            BadSpec::SmallSize(size) => write!(
+            BadSpec::SmallSize { size, least } => write!(
                 f,
-                "a zone has 1024 bytes at least, and {size} are too few"
+                "a zone has {least} bytes at least, and {size} are too few"
             ),
             BadSpec::LargeLimit { limit, most } => write!(
                 f,
@@ -139,7 +142,7 @@ impl ZoneSpec {
         ensures spec { IfOk result (λ spec. spec ≡ record { heads = heads; base = base; size = size; limit = limit }) }
         ensures fault { result_err result ≡ first_fault base size limit }
     {
-        match first_fault(base, size, limit, USUAL_LIMIT, USUAL_END) {
+        match first_fault(base, size, limit, Bounds::usual()) {
             Some(fault) => Err(fault),
             None => Ok(ZoneSpec {
                 heads,
@@ -157,7 +160,7 @@ impl ZoneSpec {
         ensures spec { IfOk result (λ spec. spec ≡ record { heads = heads; base = base; size = size; limit = limit }) }
         ensures fault { result_err result ≡ first_large_fault heads base size limit }
     {
-        match first_fault(base, size, limit, LARGEST_LIMIT, heads.address_end()) {
+        match first_fault(base, size, limit, Bounds::of(heads)) {
             Some(fault) => Err(fault),
             None => Ok(ZoneSpec {
                 heads,
@@ -215,21 +218,54 @@ impl ZoneSpec {
 }
 
 ghost use Rattle.std.specs.Prelude.{◌≡◌, ◌↔◌, None};
+ghost use Rattle.mac_base.specs.HeadKind.{address_end};
 ghost use Rattle.mac_base.specs.ZoneSizes.{AreWithin, conditions, first_failing};
 
-/// The first condition that these sizes don't meet, for a zone with this largest limit and this highest end.
-fn first_fault(base: u32, size: u32, limit: u32, most: u32, end: u32) -> Option<BadSpec>
-    ensures none { result ≡ None ↔ AreWithin most end base size limit }
-    ensures fault { result ≡ first_failing (conditions most end base size limit) }
+/// The least size of a zone, its largest limit, and its highest end.
+struct Bounds {
+    least: u32,
+    most: u32,
+    end: u32,
+}
+
+impl Bounds {
+    /// Those of a usual zone.
+    fn usual() -> Bounds
+        ensures { result ≡ record { least = 1024; most = 0x10_0000; end = 0x100_0000 } }
+    {
+        Bounds {
+            least: USUAL_SIZE,
+            most: USUAL_LIMIT,
+            end: USUAL_END,
+        }
+    }
+
+    /// Those of any zone with blocks of this kind.
+    fn of(heads: HeadKind) -> Bounds
+        ensures { result ≡ record { least = 512; most = 0x4000_0000; end = address_end heads } }
+    {
+        Bounds {
+            least: LEAST_SIZE,
+            most: LARGEST_LIMIT,
+            end: heads.address_end(),
+        }
+    }
+}
+
+/// The first condition that these sizes don't meet, for a zone within these bounds.
+fn first_fault(base: u32, size: u32, limit: u32, bounds: Bounds) -> Option<BadSpec>
+    ensures none { result ≡ None ↔ AreWithin bounds.least bounds.most bounds.end base size limit }
+    ensures fault { result ≡ first_failing (conditions bounds.least bounds.most bounds.end base size limit) }
 {
+    let Bounds { least, most, end } = bounds;
     let fault = if base % 4 != 0 {
         BadSpec::UnevenBase(base)
     } else if size % 4 != 0 {
         BadSpec::UnevenSize(size)
     } else if limit % 4 != 0 {
         BadSpec::UnevenLimit(limit)
-    } else if size < LEAST_SIZE {
-        BadSpec::SmallSize(size)
+    } else if size < least {
+        BadSpec::SmallSize { size, least }
     } else if limit > most {
         BadSpec::LargeLimit { limit, most }
     } else if size > limit {

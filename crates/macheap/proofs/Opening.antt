@@ -4,7 +4,7 @@ use Rattle.std.proofs.lemmas.List.{append-nil, length-map, take_all, take_more, 
 use Rattle.std.specs.Prelude.{IfOk, IfErr, ⊤}
 use Rattle.clap.specs.Words.{Text}
 use Rattle.macheap.specs.Claiming.{AreNamed, Asking, IsNamed}
-use Rattle.macheap.specs.declared.claimed.FileId.{FileId}
+use Rattle.host_paths.specs.declared.host.Found.{Found}
 use Rattle.macheap.specs.declared.claimed.Naming.{Naming}
 use Rattle.macheap.specs.declared.claimed.Naming.TheVariants.{Once, Repeated}
 use Rattle.fork_disk.specs.declared.store.ForkStore.{Ghosts}
@@ -120,18 +120,18 @@ fault_widen naming paths more openings (CannotOpen path why) cant = (cant_widen 
 fault_widen naming paths more openings HostFull some = some_widen paths more openings some
 
 -- one more file is opened by its path
-pub AreNamed-push : {F : Type 0} (asking : Asking F) (naming : Naming) (known : List FileId) (paths : List Text) (files : List F) (path : Text) (file : F) → AreNamed asking naming known paths files → IsNamed asking naming (known ++ map asking.id files) path file
+pub AreNamed-push : {F : Type 0} (asking : Asking F) (naming : Naming) (known : List Found) (paths : List Text) (files : List F) (path : Text) (file : F) → AreNamed asking naming known paths files → IsNamed asking naming (known ++ map asking.id files) path file
     → AreNamed asking naming known (paths ++ path ∷ []) (files ++ file ∷ [])
-AreNamed-push asking naming known [] [] path file are one = (subst (λ (ids : List FileId). IsNamed asking naming ids path file) (append-nil known) one, tt)
+AreNamed-push asking naming known [] [] path file are one = (subst (λ (ids : List Found). IsNamed asking naming ids path file) (append-nil known) one, tt)
 AreNamed-push asking naming known (p ∷ paths) (f ∷ files) path file are one = (
   are.0,
-  AreNamed-push asking naming (known ++ asking.id f ∷ []) paths files path file are.1 (subst (λ (ids : List FileId). IsNamed asking naming ids path file) (sym (append_assoc known (asking.id f ∷ []) (map asking.id files))) one),
+  AreNamed-push asking naming (known ++ asking.id f ∷ []) paths files path file are.1 (subst (λ (ids : List Found). IsNamed asking naming ids path file) (sym (append_assoc known (asking.id f ∷ []) (map asking.id files))) one),
 )
 AreNamed-push asking naming known [] (f ∷ files) path file are one = absurd are
 AreNamed-push asking naming known (p ∷ paths) [] path file are one = absurd are
 
 -- and by the next of these paths
-pub named_more : {F B : Type 0} (asking : Asking F) (naming : Naming) (known : List FileId) (before : List Text) (names : List B) (now : B → Text) (at : ℕ) (name : B) (files : List F) (file : F) → at < length names → name ≡ get_or names at name
+pub named_more : {F B : Type 0} (asking : Asking F) (naming : Naming) (known : List Found) (before : List Text) (names : List B) (now : B → Text) (at : ℕ) (name : B) (files : List F) (file : F) → at < length names → name ≡ get_or names at name
     → AreNamed asking naming known (before ++ map now (take at names)) files → IsNamed asking naming (known ++ map asking.id files) (now name) file → AreNamed asking naming known (before ++ map now (take (at + 1) names)) (files ++ file ∷ [])
 named_more asking naming known before names now at name files file lt is are one =
     subst (λ (ps : List Text). AreNamed asking naming known ps (files ++ file ∷ [])) (sym (next_paths before names now at name lt is))

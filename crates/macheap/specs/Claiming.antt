@@ -1,57 +1,90 @@
--- How a file is opened by a name, and locked.
-use Rattle.std.specs.Prelude.{◌≡◌, ◌==◌, ◌&&◌, ◌↔◌, Bool, true, false, List, [], ◌∷◌, ◌++◌, Option, Some, None, Result, Ok, Err, ⊤}
+-- How a file is opened by a name, locked and synced.
+use Rattle.std.specs.Prelude.{◌≡◌, ◌≢◌, ◌⊎◌, Bool, true, false, List, [], ◌∷◌, ◌++◌, Some, None, Result, Ok, Err, ⊤}
 use Rattle.std.specs.List.{list_any}
 use Rattle.clap.specs.Words.{Text}
 use Rattle.std.specs.declared.fs.File.{File}
-use Rattle.macheap.specs.declared.claimed.FileId.{FileId}
-use Rattle.macheap.specs.declared.claimed.Lock.{Lock}
+use Rattle.host_paths.specs.Asked.{Log, folder_name, is_regular, same_file}
+use Rattle.host_paths.specs.declared.host.Access.TheVariants.{Read, Both}
+use Rattle.host_paths.specs.declared.host.Answer.TheVariants.{Is}
+use Rattle.host_paths.specs.declared.host.Found.{Found}
+use Rattle.host_paths.specs.declared.host.HostCall.TheVariants.{Of, Open, OpenOrMake, Over, Lock, Sync}
+use Rattle.host_paths.specs.declared.host.Locking.{Locking}
+use Rattle.host_paths.specs.declared.host.Locking.TheVariants.{Busy}
+use Rattle.host_paths.specs.declared.host.Syncing.{Syncing}
 use Rattle.macheap.specs.declared.opened.NewFile.{NewFile}
 use Rattle.macheap.specs.declared.claimed.Naming.{Naming}
 use Rattle.macheap.specs.declared.claimed.Naming.TheVariants.{Once}
 use Rattle.macheap.specs.declared.opened.NotOpened.{NotOpened}
 use Rattle.macheap.specs.declared.opened.NotOpened.TheVariants.{Twice}
 
--- the same file of the host
-abbrev pub is_same : FileId → FileId → Bool
-is_same a b = (a.device == b.device) && (a.number == b.number)
-
 -- a file that is one of these
-abbrev pub is_known : List FileId → FileId → Bool
-is_known known id = list_any (λ one. is_same one id) known
+abbrev pub is_known : List Found → Found → Bool
+is_known known id = list_any (λ one. same_file one id) known
 
--- this lock is one, of this file
-abbrev pub IsLock : File → Option Lock → Type 0
-IsLock file (Some lock) = lock.of.events ≡ file ∷ []
-IsLock file None = ⊥
+-- the folder of a path was synced, if it can be read and that is offered
+abbrev pub SettlesName : Log → Log → Type 0
+SettlesName old new = (to : Text) × ((new ≡ Open Read (folder_name to) None ∷ old)
+    ⊎ ((folder : File) × (syncing : Syncing) × (new ≡ Sync folder (Some syncing) ∷ Open Read (folder_name to) (Some folder) ∷ old)))
 
--- What is asked of a file that was opened: the path by which it was, which file it is, and whether its lock was taken.
+-- this file was made at this path, and its folder synced
+abbrev pub Makes : Text → File → Log → Log → Type 0
+Makes path file old new = SettlesName (OpenOrMake path (Some file) ∷ old) new
+
+-- This file was opened by this path, to read and to write it; or to read it, since it may not be written; or it was
+-- missing, and was made.
+abbrev pub Opens : Text → File → Log → Log → Type 0
+Opens path file old new = (new ≡ Open Both path (Some file) ∷ old)
+    ⊎ ((new ≡ Open Read path (Some file) ∷ Open Both path None ∷ old) ⊎ Makes path file (Open Both path None ∷ old) new)
+
+-- this file was locked, if that is offered
+abbrev pub HasLock : File → Log → Log → Type 0
+HasLock file old new = (locking : Locking) × (locking ≢ Busy) × (new ≡ Lock file (Some locking) ∷ old)
+
+-- the path led to this file
+abbrev pub LeadsTo : Text → Found → Log → Log → Type 0
+LeadsTo path here old new = (there : Found) × (same_file there here ≡ true) × (new ≡ Over path (Is there) ∷ old)
+
+-- This file was locked, and after that its path led to it still; then it was synced, if that is offered.
+abbrev pub IsHeld : Text → File → Found → Log → Log → Type 0
+IsHeld path file here old new = (locked : Log) × (led : Log) × (syncing : Syncing)
+    × HasLock file old locked × LeadsTo path here locked led × (new ≡ Sync file (Some syncing) ∷ led)
+
+-- so was a regular file; of another nothing was asked
+pub record IsClaimed (path : Text) (file : File) (here : Found) (old new : Log) : Type 0 where
+  pub held : is_regular here.kind ≡ true → IsHeld path file here old new
+  pub other : is_regular here.kind ≡ false → new ≡ old
+
+-- What is asked of a file that was opened: the file itself, which one it is, and the calls of the system so far, the
+-- newest first.
 pub record Asking (F : Type 0) : Type 1 where
-  pub path : F → Text
-  pub id : F → FileId
-  pub is_locked : F → Type 0
+  pub file : F → File
+  pub id : F → Found
+  pub calls : F → Log
 
 -- a file of the host as it was opened
 abbrev pub as_opened : Asking NewFile
 as_opened = record {
-  path = λ file. file.path.events;
+  file = λ file. file.file.file;
   id = λ file. file.id;
-  is_locked = λ file. IsLock file.file.file file.lock;
+  calls = λ file. file.calls.events;
 }
 
--- This file was opened by this path, where these were before it. Its lock was taken, but where it is one of these: then
--- it may have been named again.
-pub record IsNamed {F : Type 0} (asking : Asking F) (naming : Naming) (known : List FileId) (path : Text) (file : F) : Type 0 where
-  pub named : asking.path file ≡ path
+-- This file was opened by this path, where these were before it, and it was asked which one it is. If it is none of
+-- these, it was claimed; else it may have been named again. Nothing else was asked.
+pub record IsNamed {F : Type 0} (asking : Asking F) (naming : Naming) (known : List Found) (path : Text) (file : F) : Type 0 where
+  pub start : Log
+  pub opened : Opens path (asking.file file) [] start
+  pub claimed : is_known known (asking.id file) ≡ false → IsClaimed path (asking.file file) (asking.id file) (Of (asking.file file) (Is (asking.id file)) ∷ start) (asking.calls file)
+  pub again : is_known known (asking.id file) ≡ true → asking.calls file ≡ Of (asking.file file) (Is (asking.id file)) ∷ start
   pub once : naming ≡ Once → is_known known (asking.id file) ≡ false
-  pub locked : asking.is_locked file ↔ (is_known known (asking.id file) ≡ false)
 
 -- so the file of this path was opened; or it wasn't: as a second name only where it is one of these, and may not be named again
-abbrev pub IsOpening : {F : Type 0} → Asking F → Naming → List FileId → Text → Result F NotOpened → Type 0
+abbrev pub IsOpening : {F : Type 0} → Asking F → Naming → List Found → Text → Result F NotOpened → Type 0
 IsOpening asking naming known path (Ok file) = IsNamed asking naming known path file
-IsOpening asking naming known path (Err why) = why ≡ Twice → (naming ≡ Once) × ((id : FileId) × (is_known known id ≡ true))
+IsOpening asking naming known path (Err why) = why ≡ Twice → (naming ≡ Once) × ((id : Found) × (is_known known id ≡ true))
 
 -- these files were opened by these paths in turn, where those were before them
-abbrev pub AreNamed : {F : Type 0} → Asking F → Naming → List FileId → List Text → List F → Type 0
+abbrev pub AreNamed : {F : Type 0} → Asking F → Naming → List Found → List Text → List F → Type 0
 AreNamed asking naming known [] [] = ⊤
 AreNamed asking naming known (path ∷ paths) (file ∷ files) = IsNamed asking naming known path file × AreNamed asking naming (known ++ asking.id file ∷ []) paths files
 AreNamed asking naming known [] (file ∷ files) = ⊥

@@ -85,7 +85,7 @@ TellsNoMemory told = (told.status ≡ 1) × Wrote no_memory_text told.write_fail
 
 -- the lines that the help text begins with
 abbrev pub about_text : List ℕ
-about_text = codes "Runs the script of standard input on a new heap zone, and writes each call's reply\n\n"
+about_text = codes "Runs the script of standard input on a new heap zone, and writes each call's reply\nWith --look FILE it shows a zone that others made instead: see macheap --look FILE --help\n\n"
 
 -- With this status a help text was written, which begins so; or a proper front of it, since a write failed; or that the
 -- host has no memory.

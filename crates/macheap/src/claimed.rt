@@ -1,21 +1,17 @@
-//! How a file of the host is opened, and locked against other programs.
+//! How a file of the host is opened, locked against other programs, and synced.
 
-ghost use Rattle.std.specs.Prelude.{◌≡◌, ◌≢◌, ◌∷◌, [], IfOk, IfErr};
-ghost use Rattle.macheap.specs.Claiming.{IsOpening, as_opened, is_known, is_same};
+ghost use Rattle.std.specs.Prelude.{◌≡◌, ◌≢◌, IfOk, IfErr, OnOk};
+ghost use Rattle.macheap.specs.Claiming.{HasLock, IsClaimed, IsOpening, LeadsTo, Makes, Opens, SettlesName, as_opened, is_known};
 
 use crate::opened::{NewFile, NotOpened};
-use fork_disk::{HostFile, Record};
-use std::fs::{File, Metadata, OpenOptions, TryLockError};
+use fork_disk::HostFile;
+use host_paths::{
+    Access, Found, HostCalls, Locking, folder_name, followed, found_of, found_over, lock, open,
+    open_or_make, sync,
+};
+use std::fs::File;
+use std::io;
 use std::io::ErrorKind;
-use std::os::unix::fs::MetadataExt;
-use std::{fs, io};
-
-/// Which file of the host it is, whatever its name.
-#[derive(Clone, Copy)]
-pub struct FileId {
-    device: u64,
-    number: u64,
-}
 
 /// How often a run may name a file.
 #[derive(Clone, Copy)]
@@ -26,25 +22,6 @@ pub enum Naming {
     Once,
 }
 
-/// A file as the system opened it.
-#[derive(Drop)]
-struct Found {
-    file: File,
-    /// The path by which it was opened. Only clauses read it.
-    path: Record<u8>,
-    id: FileId,
-    /// It keeps its bytes: it is no device, and no pipe.
-    is_regular: bool,
-}
-
-/// The lock on a file, which keeps away other programs that ask for it. It lasts until the file is closed. A device or
-/// a pipe has none, and some file systems have none.
-#[derive(Drop)]
-pub struct Lock {
-    /// The file that is locked. Only clauses read it.
-    pub of: Record<File>,
-}
-
 /// Why the host doesn't open a file, by its error.
 fn unopened(error: io::Error) -> NotOpened
     ensures { result ≢ NotOpened.Twice }
@@ -52,146 +29,129 @@ fn unopened(error: io::Error) -> NotOpened
     NotOpened::because(error.kind())
 }
 
-/// Whether two are the same file.
-fn is_same(one: FileId, other: FileId) -> bool
-    ensures { result ≡ is_same one other }
-{
-    one.device == other.device && one.number == other.number
-}
-
 /// Whether a file is one of these.
-fn is_known(known: &[FileId], id: FileId) -> bool
-    ensures { result ≡ is_known known.now id }
+fn is_known(known: &[Found], found: &Found) -> bool
+    ensures { result ≡ is_known known.now found.now }
 {
-    known.iter().any(|one| is_same(*one, id))
+    known.iter().any(|one| one.is_same(found))
 }
 
-/// Which file the system speaks of.
-fn id_of(there: &Metadata) -> FileId {
-    FileId {
-        device: there.dev(),
-        number: there.ino(),
+/// Syncs the folder of a file that was made, where it can be read, so that a crash leaves the file its name.
+fn settle_name(rt: &HostRuntime, path: &str, calls: &mut HostCalls) -> Result<(), NotOpened>
+    ensures settles { OnOk result (SettlesName calls.old.events calls.new.events) }
+    ensures first { IfErr result (λ why. why ≢ NotOpened.Twice) }
+{
+    let path = followed(rt, path).map_err(unopened)?;
+    match open(rt, folder_name(&path), Access::Read, calls) {
+        Ok(folder) => sync(&folder, calls).map_err(unopened).map(|_| ()),
+        Err(error) if error.kind() == ErrorKind::PermissionDenied => Ok(()),
+        Err(error) => Err(unopened(error)),
     }
 }
 
-/// A record of a path.
-fn path_of(path: &str) -> Record<u8>
-    ensures { result.events ≡ path.now }
+/// Makes the file of a path, with length 0.
+fn made(rt: &HostRuntime, path: &str, calls: &mut HostCalls) -> Result<File, NotOpened>
+    ensures opens { IfOk result (λ file. Makes path.now file calls.old.events calls.new.events) }
+    ensures first { IfErr result (λ why. why ≢ NotOpened.Twice) }
 {
-    Record::of_events_beside(&Record::new(), &path, &path)
+    let file = open_or_make(rt, path, calls).map_err(unopened)?;
+    settle_name(rt, path, calls)?;
+    Ok(file)
 }
 
 /// The file of a path, to read and to write it. A missing one is made, with length 0. Where it may only be read it is
 /// opened to be read: the system refuses each write and each cut of it then, and nothing changes. An error is that of
 /// the first try.
-fn opened(runtime: &HostRuntime, path: &str) -> io::Result<File> {
-    let mut both = OpenOptions::new();
-    match both.read(true).write(true).create(true).open(runtime, path) {
-        Ok(file) => Ok(file),
-        Err(why) if is_not_to_write(why.kind()) => File::open(runtime, path).map_err(|_| why),
-        Err(why) => Err(why),
+fn opened(rt: &HostRuntime, path: &str, calls: &mut HostCalls) -> Result<File, NotOpened>
+    ensures opens { IfOk result (λ file. Opens path.now file calls.old.events calls.new.events) }
+    ensures first { IfErr result (λ why. why ≢ NotOpened.Twice) }
+{
+    let why = match open(rt, path, Access::Both, calls) {
+        Ok(file) => return Ok(file),
+        Err(why) => why,
+    };
+    match why.kind() {
+        ErrorKind::NotFound => made(rt, path, calls),
+        ErrorKind::PermissionDenied | ErrorKind::ReadOnlyFilesystem => {
+            open(rt, path, Access::Read, calls).map_err(|_| unopened(why))
+        }
+        _ => Err(unopened(why)),
     }
-}
-
-/// Whether the system refused a file since it may not be written.
-fn is_not_to_write(why: ErrorKind) -> bool {
-    matches!(
-        why,
-        ErrorKind::PermissionDenied | ErrorKind::ReadOnlyFilesystem
-    )
 }
 
 /// Locks a file. Where the file system has no locks, there is none.
-fn try_lock(file: &File) -> Result<(), NotOpened>
-    ensures { IfErr result (λ why. why ≢ NotOpened.Twice) }
+fn take_lock(file: &File, calls: &mut HostCalls) -> Result<(), NotOpened>
+    ensures locks { OnOk result (HasLock file.now calls.old.events calls.new.events) }
+    ensures first { IfErr result (λ why. why ≢ NotOpened.Twice) }
 {
-    match file.try_lock() {
-        Ok(()) => Ok(()),
-        Err(TryLockError::WouldBlock) => Err(NotOpened::InUse),
-        Err(TryLockError::Error(error)) if error.kind() == ErrorKind::Unsupported => Ok(()),
-        Err(TryLockError::Error(error)) => Err(unopened(error)),
-    }
-}
-
-/// Refuses a path that doesn't lead to this file any more: another program has put one in its place.
-fn refuse_moved(runtime: &HostRuntime, path: &str, id: FileId) -> Result<(), NotOpened>
-    ensures { IfErr result (λ why. why ≢ NotOpened.Twice) }
-{
-    match fs::metadata(runtime, path) {
-        Ok(there) if is_same(id_of(&there), id) => Ok(()),
-        Ok(_) => Err(NotOpened::InUse),
-        Err(error) if error.kind() == ErrorKind::NotFound => Err(NotOpened::InUse),
+    match lock(file, calls) {
+        Ok(Locking::Taken | Locking::NotOffered) => Ok(()),
+        Ok(Locking::Busy) => Err(NotOpened::InUse),
         Err(error) => Err(unopened(error)),
     }
 }
 
-impl Found {
-    /// Opens the file of a path. A missing one is made.
-    fn open(runtime: &HostRuntime, path: &str) -> Result<Found, NotOpened>
-        ensures path { IfOk result (λ found. found.path.events ≡ path.now) }
-        ensures first { IfErr result (λ why. why ≢ NotOpened.Twice) }
-    {
-        let file = opened(runtime, path).map_err(unopened)?;
-        let there = file.metadata().map_err(unopened)?;
-        Ok(Found {
-            file,
-            path: path_of(path),
-            id: id_of(&there),
-            is_regular: there.is_file(),
-        })
-    }
-
-    /// The file, with its lock or without one.
-    fn with_lock(self, lock: Option<Lock>) -> NewFile
-        ensures file { result.file.file ≡ self.file }
-        ensures path { result.path ≡ self.path }
-        ensures id { result.id ≡ self.id }
-        ensures lock { result.lock ≡ lock }
-    {
-        NewFile {
-            file: HostFile::new(self.file),
-            path: self.path,
-            id: self.id,
-            lock,
-        }
+/// Refuses a path that doesn't lead to this file any more: another program has put one in its place.
+fn refuse_moved(
+    rt: &HostRuntime,
+    path: &str,
+    file: &Found,
+    calls: &mut HostCalls,
+) -> Result<(), NotOpened>
+    ensures leads { OnOk result (LeadsTo path.now file.now calls.old.events calls.new.events) }
+    ensures first { IfErr result (λ why. why ≢ NotOpened.Twice) }
+{
+    match found_over(rt, path, calls) {
+        Ok(Some(there)) if there.is_same(file) => Ok(()),
+        Ok(_) => Err(NotOpened::InUse),
+        Err(error) => Err(unopened(error)),
     }
 }
 
-impl Lock {
-    /// Locks the file that was opened by a path. It is refused where another program has the lock, or has put another
-    /// file there.
-    fn take(runtime: &HostRuntime, path: &str, found: &Found) -> Result<Lock, NotOpened>
-        ensures of { IfOk result (λ lock. lock.of.events ≡ found.now.file ∷ []) }
-        ensures first { IfErr result (λ why. why ≢ NotOpened.Twice) }
-    {
-        if found.is_regular {
-            try_lock(&found.file)?;
-            refuse_moved(runtime, path, found.id)?;
-        }
-        let file = &found.file;
-        Ok(Lock {
-            of: Record::of_events_beside(&Record::new(), &file, &file),
-        })
+/// Locks the file that was opened by a path, and syncs it, so that a crash leaves what is read of it. It is refused where
+/// another program has the lock, or has put another file there. A device or a pipe is left as it is.
+fn claim(
+    rt: &HostRuntime,
+    path: &str,
+    file: &File,
+    found: &Found,
+    calls: &mut HostCalls,
+) -> Result<(), NotOpened>
+    ensures claims { OnOk result (IsClaimed path.now file.now found.now calls.old.events calls.new.events) }
+    ensures first { IfErr result (λ why. why ≢ NotOpened.Twice) }
+{
+    if !found.is_regular() {
+        return Ok(());
+    }
+    take_lock(file, calls)?;
+    refuse_moved(rt, path, found, calls)?;
+    match sync(file, calls) {
+        Ok(_) => Ok(()),
+        Err(error) => Err(unopened(error)),
     }
 }
 
-/// Opens the file of a path, where these were opened before it, and locks it. One of these has its lock already; it is
+/// Opens the file of a path, where these were opened before it, and claims it. One of these is claimed already; it is
 /// refused where a run may name each file once.
-pub fn open(
-    runtime: &HostRuntime,
+pub fn open_claimed(
+    rt: &HostRuntime,
     path: &str,
     naming: Naming,
-    known: &[FileId],
+    known: &[Found],
 ) -> Result<NewFile, NotOpened>
     ensures { IsOpening as_opened naming known.now path.now result }
 {
-    let found = Found::open(runtime, path)?;
-    if !is_known(known, found.id) {
-        let lock = Lock::take(runtime, path, &found)?;
-        return Ok(found.with_lock(Some(lock)));
+    let mut calls = HostCalls::new();
+    let file = opened(rt, path, &mut calls)?;
+    let found = found_of(&file, &mut calls).map_err(unopened)?;
+    match (is_known(known, &found), naming) {
+        (false, _) => claim(rt, path, &file, &found, &mut calls)?,
+        (true, Naming::Repeated) => {}
+        (true, Naming::Once) => return Err(NotOpened::Twice),
     }
-    match naming {
-        Naming::Repeated => Ok(found.with_lock(None)),
-        Naming::Once => Err(NotOpened::Twice),
-    }
+    Ok(NewFile {
+        file: HostFile::new(file),
+        id: found,
+        calls,
+    })
 }

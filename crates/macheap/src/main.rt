@@ -1,20 +1,23 @@
 //! Runs a script of calls on a heap zone: `macheap [--zone N] [--limit N] [--base N] [--mode 24|32] [--fork FILE]..
-//! [--journal FILE].. < script`.
+//! [--journal FILE].. < script`; or shows a zone that anyone made: `macheap --look FILE`.
 #![tactic(auto)]
 
 mod asked;
 mod claimed;
 mod disk;
 mod files;
+mod look;
 mod name;
 mod opened;
 mod program;
+mod shown;
 mod stores;
 
 use disk::Disk;
 use fork_disk::store::PlainStore;
 use fork_disk::{Unknown, World};
 use fork_journal::{FilePair, Journal, PairWorld, UnknownPair};
+use look::{asks_for_look, looked};
 use program::{BAD_WORDS, program};
 use script_run::{Counted, status, tell_no_memory};
 use std::io::ErrorKind;
@@ -36,10 +39,13 @@ fn run_on_host<W: World, V: PairWorld>(rt: &HostRuntime) -> ExitCode {
     let Ok(words) = words.collect::<Vec<String>>(alloc) else {
         return no_memory(rt);
     };
+    let words = words.as_slice();
+    if asks_for_look(words) {
+        return ExitCode::from(looked(rt, words));
+    }
     let mut input = Counted::new(rt.stdin());
     let mut output = Counted::new(rt.stdout());
     let mut messages = Counted::new(rt.stderr());
-    let words = words.as_slice();
     let mut opener: HostDisks<'_, PlainStore<Disk<W>>, Journal<FilePair<V>>> = HostDisks::new(rt);
     ExitCode::from(program(
         alloc,

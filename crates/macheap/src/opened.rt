@@ -2,8 +2,8 @@
 
 ghost use Rattle.std.specs.Prelude.{◌≡◌, ◌++◌, ◌∷◌, [], false};
 
-use crate::claimed::{FileId, Lock};
 use fork_disk::{HostFile, Record};
+use host_paths::{Found, HostCalls};
 use std::collections::LinkedList;
 use std::io::ErrorKind;
 
@@ -11,12 +11,10 @@ use std::io::ErrorKind;
 #[derive(Drop)]
 pub struct NewFile {
     pub file: HostFile,
-    /// The path by which it was opened. Only clauses read it.
-    pub path: Record<u8>,
-    /// Which file it is.
-    pub id: FileId,
-    /// Its lock; none where the run has opened the same file before.
-    pub lock: Option<Lock>,
+    /// Which file it is, as it was found.
+    pub id: Found,
+    /// The calls of the system by which it was opened. Only clauses read them.
+    pub calls: HostCalls,
     ghost unfailed: { file.failures ≡ 0 },
     ghost unspent: { file.is_spent ≡ false },
 }

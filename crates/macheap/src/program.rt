@@ -3,6 +3,9 @@
 ghost use Rattle.std.specs.Prelude.{◌≡◌, ◌≢◌, ◌≤◌, ◌++◌, [], ℕ, List, length, map};
 ghost use Rattle.macheap.specs.Files.{most_files};
 ghost use Rattle.script_run.specs.Counting.{RoseByOne, Took};
+ghost use Rattle.script_run.specs.Exact.{RunsAgree};
+ghost use Rattle.script_run.specs.Headline.{RunShows};
+ghost use Rattle.script_run.specs.Recovery.{RunRecovers};
 ghost use Rattle.macheap.specs.Program.{Answers, Did, HelpEnds, NoStoresEnd, ProgramEnds, Refuses, RunEnds, RunsOver, SaysWhy, Tells, Wrote, cannot_open_text, lacks_memory};
 ghost use Rattle.macheap.specs.Stores.{Opening};
 ghost use Rattle.macheap.specs.declared.stores.AnyStore.{AnyStore};
@@ -33,7 +36,7 @@ const CANNOT_OPEN: u8 = 1;
 
 /// What the help text begins with.
 const ABOUT: &[u8] =
-    b"Runs the script of standard input on a new heap zone, and writes each call's reply\n\n";
+    b"Runs the script of standard input on a new heap zone, and writes each call's reply\nWith --look FILE it shows a zone that others made instead: see macheap --look FILE --help\n\n";
 
 /// What is wrong with the first line of a script that is none.
 #[derive(Debug, Drop, Error)]
@@ -69,6 +72,12 @@ pub fn program<
         × (O.openings opener.new ≡ O.openings opener.old ++ openings) × (O.closed opener.new ≡ O.closed opener.old ++ closed)
         × Did R.remaining W.contents M.contents input.old input.new output.old output.new messages.old messages.new result
         (ProgramEnds (record { files = O.asking; store = S.ForkStore; with_journal = J.ForkStore; plain = O.plain; pairs = O.pairs }) (map T.text words.now) openings closed) }
+    // So these are promised of each run, over forks alone and with journals: what its lines print is the replies of calls
+    // with their promises; a crash at any moment leaves each file with a journal as that recovers it; and two runs on the
+    // same print the same.
+    ensures headline { RunShows S.ForkStore × RunShows J.ForkStore }
+    ensures recovers { RunRecovers S.ForkStore × RunRecovers J.ForkStore }
+    ensures exact { RunsAgree S.ForkStore × RunsAgree J.ForkStore }
     // Where something failed, the status says so.
     ensures no_read_failed { result ≢ 1 → input.new.failures ≡ input.old.failures }
     ensures no_write_failed { result ≢ 1 → output.new.failures ≡ output.old.failures }

@@ -8,13 +8,13 @@ ghost use Rattle.macheap.specs.declared.stores.AnyStore.TheVariants.{Alone, Jour
 ghost use Rattle.macheap.specs.Files.{most_files};
 ghost use Rattle.macheap.specs.Stores.{AreJournalled, AreOn, ArePaired, ArePairs, ArePlain, Asked, IsOpened, Opening};
 
-use crate::claimed;
-use crate::claimed::{FileId, Naming};
+use crate::claimed::{Naming, open_claimed};
 use crate::disk::Disk;
 use crate::opened::{NewFile, NotOpened, OpenedFiles, note};
 use fork_disk::store::{ForkStore, PlainStore};
 use fork_disk::{FileDisk, MemDisk, Record, World};
 use fork_journal::{FilePair, Journal, PairWorld};
+use host_paths::Found;
 use std::alloc::{AllocError, AllocFailed, Global};
 
 /// A store of a run: `S` of a fork alone, or `J` of a fork with its journal.
@@ -40,18 +40,18 @@ pub trait Opens<F, S: ForkStore, J: ForkStore> {
     /// What is a store of this number of a fork and its journal, which are these files.
     ghost pairs: { ℕ → F → F → J → Type 0 };
 
-    /// What is asked of a file: its path, which file it is, and whether it is locked.
+    /// What is asked of a file: the file itself, which one it is, and the calls of the system by which it was opened.
     ghost asking: { Asking F };
 
-    /// The file of a path, which is made where it is missing, and locked, or why it can't be opened. One of those that
-    /// were opened before it is locked already: where each may be named once, it is refused.
-    fn open(&mut self, path: &str, naming: Naming, known: &[FileId]) -> Result<F, NotOpened>
+    /// The file of a path, which is made where it is missing, locked and synced, or why it can't be opened. One of those
+    /// that were opened before it is locked already: where each may be named once, it is refused.
+    fn open(&mut self, path: &str, naming: Naming, known: &[Found]) -> Result<F, NotOpened>
         ensures noted { openings self.new ≡ openings self.old ++ (path.now, result) ∷ [] }
         ensures none_closed { closed self.new ≡ closed self.old }
         ensures opens { IsOpening asking naming known.now path.now result };
 
     /// Which file it is.
-    fn id(&self, file: &F) -> FileId
+    fn id(&self, file: &F) -> Found
         ensures { result ≡ asking.id file.now };
 
     /// A store in memory, without bytes.
@@ -121,13 +121,13 @@ impl<W: World, V: PairWorld> Opens<NewFile, PlainStore<Disk<W>>, Journal<FilePai
     ghost pairs = { λ number fork journal store. (store.pair.fork ≡ record fork.file { which = 0 })
         × (store.pair.journal ≡ record journal.file { which = 1 }) × (store.pair.number ≡ number) × (store.pair.log.events ≡ []) };
 
-    fn open(&mut self, path: &str, naming: Naming, known: &[FileId]) -> Result<NewFile, NotOpened> {
-        let file = claimed::open(self.runtime, path, naming, known);
+    fn open(&mut self, path: &str, naming: Naming, known: &[Found]) -> Result<NewFile, NotOpened> {
+        let file = open_claimed(self.runtime, path, naming, known);
         note(&mut self.opened, path, &file);
         file
     }
 
-    fn id(&self, file: &NewFile) -> FileId {
+    fn id(&self, file: &NewFile) -> Found {
         file.id
     }
 
@@ -322,8 +322,8 @@ fn opened_pairs<'a, F: Drop, S: ForkStore, J: ForkStore, O: Opens<F, S, J>>(
 fn push_both<T: Drop>(
     items: &mut Vec<T>,
     item: T,
-    known: &mut Vec<FileId>,
-    id: FileId,
+    known: &mut Vec<Found>,
+    id: Found,
 ) -> Result<(), AllocError>
     ensures items { OnOk result (items.new.items ≡ items.old.items ++ item ∷ []) }
     ensures known { OnOk result (known.new.items ≡ known.old.items ++ id ∷ []) }
@@ -339,7 +339,7 @@ fn opened<'a, F: Drop, S: ForkStore, J: ForkStore, O: Opens<F, S, J>>(
     opener: &mut O,
     naming: Naming,
     paths: &[&'a str],
-    known: &mut Vec<FileId>,
+    known: &mut Vec<Found>,
 ) -> Result<Vec<F>, NoStores<'a>>
     ensures files { (openings : List (Opening F)) × (O.openings opener.new ≡ O.openings opener.old ++ openings)
         × IsOpened naming (map (λ path. path.now) paths.now) openings (λ files. Asked (map (λ path. path.now) paths.now) (map Ok files) openings) result }

@@ -5,7 +5,7 @@ use mir.Val.{of_z, to_z}
 use Rattle.std.proofs.lemmas.Bool.Decides.{nat_tests}
 use Rattle.mac_base.specs.ZoneSizes.{ZoneSizes}
 use Rattle.raw_region.specs.State.{State as Region}
-use Rattle.held_zone.specs.Asleep.{IsAwakeIn, IsSettled, SleepsOn}
+use Rattle.held_zone.specs.Asleep.{anew, IsAwakeIn, IsSettled, SleepsOn}
 use Rattle.held_zone.specs.Fields.{managed}
 use Rattle.held_zone.specs.declared.waking.WhyAsleep.{WhyAsleep}
 use Rattle.held_zone.specs.declared.waking.WhyAsleep.TheVariants.{Damaged, HostFull, Unlocked}
@@ -18,13 +18,13 @@ same_numbers m n same = grind (arith, nat_tests)
 
 -- a zone that is made in bytes as many as its limit
 pub made_in : (sizes : ZoneSizes) (memory after : Option Region) (asleep : Option State) (region kept : Region) (new : State)
-    → memory ≡ Some region → length region.bytes ≡ sizes.limit → IsNew sizes new → IsSettled new region kept → asleep ≡ Some new → after ≡ Some kept
+    → memory ≡ Some region → length region.bytes ≡ sizes.limit → IsNew sizes new → IsSettled new region kept → asleep ≡ Some new → after ≡ Some (anew kept)
     → IsMadeAt None (Some sizes) memory (pos 0) asleep after
 made_in sizes memory after asleep region kept new there long made settled is given =
     subst (λ (m : Option Region). IsMadeAt None (Some sizes) m (pos 0) asleep after) (sym there)
     (subst (λ (b : Bool). BeginsWhere b sizes region (pos 0) asleep after) (sym (same_numbers (length region.bytes) sizes.limit long))
     (subst (λ (s : Option State). BeginsWhere true sizes region (pos 0) s after) (sym is)
-    (subst (λ (m : Option Region). BeginsWhere true sizes region (pos 0) (Some new) m) (sym given) (refl, made, settled))))
+    (subst (λ (m : Option Region). BeginsWhere true sizes region (pos 0) (Some new) m) (sym given) (refl, made, (kept, refl, settled)))))
 
 -- the code is one of 16 bits
 pub as_told : (why : WhyAsleep) → to_z w16 (of_z w16 (code_asleep why)) ≡ code_asleep why

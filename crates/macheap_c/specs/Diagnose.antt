@@ -6,6 +6,7 @@ use Rattle.mac_base.specs.declared.block.Block.{Block}
 use Rattle.mac_base.specs.declared.error.HostFull.{HostFull}
 use Rattle.mac_base.specs.ZoneState.{ZoneState}
 use Rattle.raw_region.specs.State.{State as Region}
+use Rattle.held_zone.specs.Asleep.{anew}
 use Rattle.held_zone.specs.Checking.{Finds}
 use Rattle.held_zone.specs.Fields.{managed}
 use Rattle.held_zone.specs.Repairing.{IsMended}
@@ -21,7 +22,7 @@ use Rattle.macheap_c.specs.Walk.{shown_block}
 -- the bytes have the structure of a zone then, with the flags that the guest set; the guest's fields of the header and all
 -- other bytes are as they were
 abbrev pub Repaired : State → Region → ℤ → State → Option Region → Type 0
-Repaired old region code new (Some kept) = (code ≡ pos 0) × IsMended old region kept new
+Repaired old region code new (Some kept) = (code ≡ pos 0) × ((r : Region) × (kept ≡ anew r) × IsMended old region r new)
 Repaired old region code new None = ⊥
 
 -- bytes that aren't as many as the zone's limit are refused: paramErr

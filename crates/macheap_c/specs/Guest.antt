@@ -6,7 +6,7 @@ use Rattle.mac_base.specs.Codes.{code_of, minus}
 use Rattle.mac_base.specs.declared.error.OsErr.{OsErr}
 use Rattle.mac_base.specs.ZoneSizes.{ZoneSizes}
 use Rattle.raw_region.specs.State.{State as Region}
-use Rattle.held_zone.specs.Asleep.{IsAwakeIn, IsGivenBack, IsSettled, SleepsOn, sleep_refusal}
+use Rattle.held_zone.specs.Asleep.{anew, IsAwakeIn, IsGivenBack, IsSettled, SleepsOn, sleep_refusal}
 use Rattle.held_zone.specs.Fields.{managed}
 use Rattle.held_zone.specs.declared.waking.WhyAsleep.{WhyAsleep}
 use Rattle.held_zone.specs.declared.waking.WhyAsleep.TheVariants.{Damaged, HostFull, Unlocked}
@@ -53,7 +53,7 @@ IsTold old region ranges = ⊤
 -- the zone sleeps, and the bytes in which it was are there again, with what C left in the blocks that were lent and what
 -- the guest left in its fields of the header. It wakes in them as it was
 abbrev pub SleepsOutOf : State → Option State → Option Region → Type 0
-SleepsOutOf old (Some new) (Some region) = IsGivenBack old region new
+SleepsOutOf old (Some new) (Some region) = (r : Region) × (region ≡ anew r) × IsGivenBack old r new
 SleepsOutOf old _ _ = ⊥
 
 -- a zone falls asleep unless it is refused: then it is awake as before
@@ -69,7 +69,7 @@ IsPutToSleep old_zone old_asleep old_memory code zone asleep memory = Refused ol
 -- there is a new zone of these sizes, asleep, and the bytes have its structure; or none, since the host has no memory
 -- (memFullErr)
 abbrev pub BeginsIn : ZoneSizes → Region → ℤ → Option State → Option Region → Type 0
-BeginsIn sizes region code (Some new) (Some kept) = (code ≡ pos 0) × IsNew sizes new × IsSettled new region kept
+BeginsIn sizes region code (Some new) (Some kept) = (code ≡ pos 0) × IsNew sizes new × ((r : Region) × (kept ≡ anew r) × IsSettled new region r)
 BeginsIn sizes region code None memory = (code ≡ minus 108) × (memory ≡ Some region)
 BeginsIn sizes region code (Some new) None = ⊥
 

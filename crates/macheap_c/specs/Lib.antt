@@ -5,4 +5,6 @@ pub mod Diagnose
 pub mod Image
 pub mod Life
 pub mod Walk
+pub mod Wrote
 pub mod Partial
+pub mod Look

@@ -1,10 +1,10 @@
 -- How a zone of C begins and ends.
-use Rattle.std.specs.Prelude.{◌≡◌, ℕ, ℤ, pos, ◌==◌, if◌then◌else◌, Option, Some, None}
+use Rattle.std.specs.Prelude.{◌≡◌, ℕ, ◌+◌, ◌-◌, ◌%◌, ℤ, pos, ◌==◌, ◌&&◌, nat_le, if◌then◌else◌, Option, Some, None}
 use Rattle.mac_base.specs.Codes.{minus}
 use Rattle.mac_base.specs.declared.block.HeadKind.{HeadKind}
 use Rattle.mac_base.specs.declared.block.HeadKind.TheVariants.{Bits24, Bits32}
 use Rattle.mac_base.specs.declared.zone_spec.BadSpec.{BadSpec}
-use Rattle.mac_base.specs.ZoneSizes.{ZoneSizes, first_fault, first_large_fault}
+use Rattle.mac_base.specs.ZoneSizes.{ZoneSizes, first_large_fault}
 use Rattle.held_zone.specs.State.{State, IsNew}
 use Rattle.held_zone.specs.Told.{no_zone}
 
@@ -17,17 +17,25 @@ abbrev pub faultless : Option HeadKind → Option BadSpec → ℕ → ℕ → �
 faultless (Some heads) None base size limit = Some (record { heads = heads; base = base; size = size; limit = limit })
 faultless _ _ base size limit = None
 
--- the sizes that C asks for, where a zone may have them
-abbrev pub sizes_of : ℕ → ℕ → ℕ → ℕ → Option ZoneSizes
-sizes_of mode base size limit = faultless (heads_of mode) (first_fault base size limit) base size limit
-
--- those where the zone may be large
+-- the sizes that C asks for, where a zone may have them: it may be large
 abbrev pub large_with : Option HeadKind → ℕ → ℕ → ℕ → Option ZoneSizes
 large_with None base size limit = None
 large_with (Some heads) base size limit = faultless (Some heads) (first_large_fault heads base size limit) base size limit
 
 abbrev pub large_sizes_of : ℕ → ℕ → ℕ → ℕ → Option ZoneSizes
 large_sizes_of mode base size limit = large_with (heads_of mode) base size limit
+
+-- an even number of bytes without the two over a multiple of 4, in which no block has room
+abbrev pub whole : ℕ → ℕ
+whole n = if n % 4 == 2 then n - 2 else n
+
+-- the sizes of a zone in memory of its own, which are any even ones
+abbrev pub own_sizes_of : ℕ → ℕ → ℕ → ℕ → Option ZoneSizes
+own_sizes_of mode base size limit = large_sizes_of mode base (whole size) (whole limit)
+
+-- those where it isn't large: it has 1,048,576 bytes at most, and an end of 24 bits whatever its blocks are
+abbrev pub sizes_of : ℕ → ℕ → ℕ → ℕ → Option ZoneSizes
+sizes_of mode base size limit = if nat_le limit 0x10_0000 && nat_le (base + limit) 0x100_0000 then own_sizes_of mode base size limit else None
 
 -- There is a new zone of these sizes; or none, since there are no such zones (paramErr), or the host has no memory
 -- (memFullErr).

@@ -44,7 +44,7 @@ fn repair(session: &mut Session, memory: &mut MhMemory) -> Result<(), OsErr>
         memory.put(region);
         return Err(OsErr::ParamErr);
     }
-    memory.put(session.repair(region));
+    memory.put_written(session.repair(region));
     Ok(())
 }
 

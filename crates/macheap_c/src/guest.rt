@@ -1,6 +1,8 @@
 //! A zone that sleeps, and wakes in bytes of the host that a guest may write meanwhile.
 
-ghost use Rattle.std.specs.Prelude.{◌≡◌, [], None, Some, IfErr, IfOk, IfSome};
+ghost use Rattle.std.specs.Prelude.{◌≡◌, [], None, Some, IfErr, IfOk, IfSome, OnErr, OnOk};
+ghost use Rattle.raw_region.specs.Runs.{AreWithin, noted};
+ghost use Rattle.macheap_c.specs.Wrote.{WroteIn, code_after};
 ghost use Rattle.linked_zone.specs.Written.{DifferIn};
 ghost use Rattle.mac_base.specs.Outcomes.{done_outcome};
 ghost use Rattle.held_zone.specs.Told.{code_told};
@@ -19,11 +21,18 @@ use held_zone::zone::MhZone;
 use linked_zone::Written;
 use mac_base::error::{NO_ERR, OsErr};
 use mac_base::zone_spec::ZoneSpec;
-use raw_region::Region;
+use raw_region::{Region, Runs};
 use std::alloc::Global;
 
 /// The bytes haven't the zone's structure: memSCErr.
 pub(crate) const DAMAGED: i16 = -116;
+
+/// Where the bytes of a zone may differ from those that it woke in, and how many it has.
+#[derive(Clone, Copy)]
+pub(crate) struct Wrote {
+    pub runs: Runs,
+    pub len: u32,
+}
 
 /// Makes a zone that sleeps, as `mh_make_zone_large` does one that is awake, and writes its structure into bytes, as
 /// many as its limit. No other of these changes.
@@ -77,7 +86,7 @@ fn make(
     }
     match Session::create(alloc, spec) {
         Ok(session) => {
-            memory.put(session.settle(region));
+            memory.put_written(session.settle(region));
             asleep.put(session);
             Ok(())
         }
@@ -221,25 +230,47 @@ pub extern "C" fn mh_sleep(
 ) -> i16
     ensures { IsPutToSleep zone.old.held.session asleep.old.zone.held.session (region_of memory.old.host) result zone.new.held.session asleep.new.zone.held.session (region_of memory.new.host) }
 {
+    match put_to_sleep(alloc, zone, asleep, memory) {
+        Ok(_) => NO_ERR,
+        Err(code) => code.code(),
+    }
+}
+
+/// Puts the zone that is awake to sleep, and gives the bytes back in which it was. Returns where they may differ from
+/// those that it woke in.
+pub(crate) fn put_to_sleep(
+    alloc: Global,
+    zone: &mut MhZone,
+    asleep: &mut MhAsleep,
+    memory: &mut MhMemory,
+) -> Result<Wrote, OsErr>
+    ensures asleep { IsPutToSleep zone.old.held.session asleep.old.zone.held.session (region_of memory.old.host) (code_after result) zone.new.held.session asleep.new.zone.held.session (region_of memory.new.host) }
+    ensures wrote { IfOk result (λ wrote. WroteIn zone.old.held.session (region_of memory.new.host) wrote.runs) }
+    ensures within { IfOk result (λ wrote. AreWithin (noted wrote.runs) wrote.len) }
+    ensures gone { OnOk result (zone.new.held.session ≡ None) }
+    ensures unchanged { OnErr result (zone.new.held.session ≡ zone.old.held.session) }
+{
     if asleep.is_live() {
-        return OsErr::ParamErr.code();
+        return Err(OsErr::ParamErr);
     }
     if let Some(region) = memory.take() {
         memory.put(region);
-        return OsErr::ParamErr.code();
+        return Err(OsErr::ParamErr);
     }
     let Some(mut session) = zone.take(alloc) else {
-        return NO_ZONE;
+        return Err(OsErr::ParamErr);
     };
+    let len = session.limit() as u32;
     match session.sleep() {
         Ok(region) => {
+            let runs = region.noted();
             asleep.put(session);
-            memory.put(region);
-            NO_ERR
+            memory.put_written(region);
+            Ok(Wrote { runs, len })
         }
         Err(code) => {
             zone.put(session);
-            code.code()
+            Err(code)
         }
     }
 }

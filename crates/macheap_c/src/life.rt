@@ -3,18 +3,18 @@
 ghost use Rattle.std.specs.Prelude.{◌≡◌, Some};
 ghost use Rattle.mac_base.specs.Outcomes.{done_outcome};
 ghost use Rattle.held_zone.specs.Told.{code_told};
-ghost use Rattle.macheap_c.specs.Life.{Ends, IsMade, heads_of, large_sizes_of, sizes_of};
+ghost use Rattle.macheap_c.specs.Life.{Ends, IsMade, heads_of, large_sizes_of, own_sizes_of, sizes_of, whole};
 
 use held_zone::session::Session;
 use held_zone::told::{self, NO_ZONE};
 use held_zone::zone::MhZone;
 use mac_base::block::HeadKind;
 use mac_base::error::{NO_ERR, OsErr};
-use mac_base::zone_spec::ZoneSpec;
+use mac_base::zone_spec::{USUAL_END, USUAL_LIMIT, ZoneSpec};
 use std::alloc::Global;
 
 /// Makes a zone that begins at `base`, has `size` bytes, may grow to `limit` bytes, and has the blocks of a mode, 24 or
-/// 32.
+/// 32. Any even size does: where it is no multiple of 4, the last two bytes aren't used.
 #[unsafe(no_mangle)]
 pub extern "C" fn mh_make_zone(
     alloc: Global,
@@ -40,9 +40,9 @@ pub extern "C" fn mh_make_zone_large(
     limit: u32,
     mode: u32,
 ) -> i16
-    ensures { IsMade zone.old.held.session (large_sizes_of mode base size limit) result zone.new.held.session }
+    ensures { IsMade zone.old.held.session (own_sizes_of mode base size limit) result zone.new.held.session }
 {
-    told::done(make(alloc, zone, large_spec_of(mode, base, size, limit)))
+    told::done(make(alloc, zone, own_spec_of(mode, base, size, limit)))
 }
 
 /// Makes a zone of these sizes, if there may be one, where there is none.
@@ -58,14 +58,32 @@ fn make(alloc: Global, zone: &mut MhZone, spec: Option<ZoneSpec>) -> Result<(), 
     Ok(())
 }
 
-/// The sizes that are asked for, where a zone may have them.
+/// The sizes that are asked for, where a zone in memory of its own may have them that isn't large.
 fn spec_of(mode: u32, base: u32, size: u32, limit: u32) -> Option<ZoneSpec>
     ensures { result ≡ sizes_of mode base size limit }
 {
-    ZoneSpec::with_kind(base, size, limit, heads_of(mode)?).ok()
+    if limit <= USUAL_LIMIT && base <= USUAL_END - limit {
+        own_spec_of(mode, base, size, limit)
+    } else {
+        None
+    }
 }
 
-/// Those, where the zone may be large.
+/// The sizes that are asked for, where a zone in memory of its own may have them.
+fn own_spec_of(mode: u32, base: u32, size: u32, limit: u32) -> Option<ZoneSpec>
+    ensures { result ≡ own_sizes_of mode base size limit }
+{
+    large_spec_of(mode, base, whole(size), whole(limit))
+}
+
+/// An even number of bytes without the two over a multiple of 4.
+fn whole(bytes: u32) -> u32
+    ensures { result ≡ whole bytes }
+{
+    if bytes % 4 == 2 { bytes - 2 } else { bytes }
+}
+
+/// The sizes that are asked for, where a zone may have them: it may be large.
 pub(crate) fn large_spec_of(mode: u32, base: u32, size: u32, limit: u32) -> Option<ZoneSpec>
     ensures { result ≡ large_sizes_of mode base size limit }
 {
@@ -73,7 +91,7 @@ pub(crate) fn large_spec_of(mode: u32, base: u32, size: u32, limit: u32) -> Opti
 }
 
 /// How blocks are headed in this mode, if there is such a mode.
-fn heads_of(mode: u32) -> Option<HeadKind>
+pub(crate) fn heads_of(mode: u32) -> Option<HeadKind>
     ensures { result ≡ heads_of mode }
 {
     match mode {

@@ -20,3 +20,4 @@ pub mod Values
 pub mod Walks
 pub mod Zeroed
 pub mod Fronts
+pub mod Noted

@@ -1,5 +1,6 @@
 pub mod Bytes
 pub mod Span
+pub mod Runs
 pub mod Hosts
 pub mod Ownership
 pub mod State

@@ -1,14 +1,10 @@
 -- A region, and a range that it lent, as contracts see them.
 use Rattle.std.specs.Prelude.{ℕ, ◌-◌, ◌&&◌, List, length, slice_index, nat_lt, if◌then◌else◌, Option, Some, None}
-use denote.RawPtr.{Ptr}
+use Rattle.mac_base.specs.ZoneState.{Name}
 use Rattle.raw_region.specs.Bytes.{written}
 use Rattle.raw_region.specs.Span.{Span, covers, is_here}
 
--- what a loan and its region have in common: the place of the region's first byte
-abbrev pub Name : Type 0
-Name = Ptr
-
--- a region: its bytes by offset, and the ranges that are lent. At a lent offset is the byte that was there when it
+-- a region: its name, which its loans have too, its bytes by offset, and the ranges that are lent. At a lent offset is the byte that was there when it
 -- was lent, and no call can read it
 pub record State : Type 0 where
   pub name : Name

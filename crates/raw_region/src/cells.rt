@@ -1,7 +1,8 @@
 //! Bytes at a raw pointer.
 
 ghost use Rattle.std.specs.Prelude.{◌≡◌, ℕ, ◌^◌, ◌<◌, List, length, true};
-ghost use denote.RawPtr.{Ptr, ◌+ₚ◌};
+ghost use denote.RawPtr.{◌+ₚ◌};
+ghost use Rattle.mac_base.specs.ZoneState.{Name};
 ghost use Rattle.raw_region.specs.Span.{Span, is_here, are_loans};
 ghost use Rattle.raw_region.specs.Ownership.{owned, shown};
 
@@ -10,16 +11,16 @@ use std::marker::Model;
 mod lends;
 mod moves;
 
-/// `len` bytes from `at` on, of which those in the ranges `lent` are someone else's. They lie `from` bytes after
-/// `home`, where the first byte of their region is.
+/// `len` bytes from `at` on, of which those in the ranges `lent` are someone else's. They lie `from` bytes after the
+/// first byte of their region, which `home` names.
 pub(crate) struct Cells {
     pub(crate) at: *mut u8,
     pub(crate) len: usize,
-    pub ghost home: { Ptr },
+    pub ghost home: { Name },
     pub ghost from: { ℕ },
     pub ghost bytes: { List ℕ },
     pub ghost lent: { List Span },
-    ghost placed: { at ≡ home +ₚ from },
+    ghost placed: { at ≡ home.0 +ₚ from },
     ghost counted: { len ≡ length bytes },
     ghost loans: { are_loans lent len ≡ true },
     ghost small: { len < 2 ^ 63 },

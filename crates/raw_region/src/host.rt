@@ -46,7 +46,7 @@ impl Cells {
     /// The bytes of the host.
     pub(crate) fn over(host: HostBytes) -> Cells
         requires { IsTrue (are_there host.bytes) }
-        ensures { (host.bytes ≡ Some result.bytes) × (result.home ≡ host.at) × (result.from ≡ 0)
+        ensures { (host.bytes ≡ Some result.bytes) × (result.home ≡ (host.at, result.bytes)) × (result.from ≡ 0)
             × (result.lent ≡ []) × (length result.bytes ≡ host.len) }
     {
         let HostBytes { at, len } = host;
@@ -56,7 +56,7 @@ impl Cells {
     /// Hands the bytes to the host.
     pub(crate) fn hand_back(self) -> HostBytes
         requires { (self.lent ≡ []) × (self.from ≡ 0) }
-        ensures { (result.bytes ≡ Some self.bytes) × (result.at ≡ self.home) × (result.len ≡ length self.bytes) }
+        ensures { (result.bytes ≡ Some self.bytes) × (result.at ≡ self.home.0) × (result.len ≡ length self.bytes) }
     {
         let Cells { at, len } = self;
         HostBytes { at, len }

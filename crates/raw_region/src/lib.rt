@@ -9,7 +9,9 @@ mod host;
 mod loan;
 mod memory;
 mod region;
+mod runs;
 
 pub use host::HostBytes;
 pub use loan::Lent;
 pub use region::Region;
+pub use runs::{Run, Runs};

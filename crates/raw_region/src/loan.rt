@@ -11,6 +11,7 @@ mod bytes;
 /// the region that lent it. A contract sees the region's name, the offset at which the range lies there, and the bytes.
 pub struct Lent {
     pub(crate) cells: Cells,
+    pub(crate) at: usize,
 }
 
 impl Model for Lent {
@@ -21,5 +22,5 @@ impl Model for Lent {
 
     ghost view = { λ l. record { name = l.cells.home; at = l.cells.from; bytes = l.cells.bytes } };
 
-    ghost invariant = { λ l. l.cells.lent ≡ [] };
+    ghost invariant = { λ l. (l.cells.lent ≡ []) × (l.at ≡ l.cells.from) };
 }

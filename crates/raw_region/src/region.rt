@@ -4,6 +4,7 @@ ghost use Rattle.std.specs.Prelude.{◌≡◌, ◌^◌, ◌<◌, [], replicate, 
 
 use crate::cells::Cells;
 use crate::memory::{Room, Source};
+use crate::runs::Runs;
 use mac_base::error::HostFull;
 use std::alloc::Global;
 use std::marker::Model;
@@ -14,18 +15,22 @@ mod host;
 mod loans;
 mod pieces;
 
-/// One run of bytes, of which ranges can be lent out. A contract sees its name, the bytes by offset and the ranges that
-/// are lent. Which bytes a call reads or writes, and that none of them is lent, is up to the caller: no call tests it
+/// One run of bytes, of which ranges can be lent out. A contract sees its name, which has the bytes that it had at first,
+/// its bytes by offset and the ranges that are lent. Which bytes a call reads or writes, and that none of them is lent, is up to the caller: no call tests it
 /// when it runs. After `create` no call takes memory of the host.
 pub struct Region {
     cells: Cells,
 
     // Where it is none, the bytes are the host's own.
     source: Option<Source>,
+
+    // Which bytes may differ from those that the region had at first.
+    noted: Runs,
 }
 
 impl Model for Region {
     ghost use Rattle.std.specs.Prelude.{◌≡◌, IfSome};
+    ghost use Rattle.raw_region.specs.Runs.{DifferIn};
     ghost use Rattle.raw_region.specs.State.{State};
 
     ghost Value = { State };
@@ -33,7 +38,7 @@ impl Model for Region {
     ghost view = { λ r. record { name = r.cells.home; bytes = r.cells.bytes; lent = r.cells.lent } };
 
     ghost invariant = { λ r. (r.cells.from ≡ 0) × IfSome r.source (λ s. (s.lease.alloc ≡ s.alloc)
-        × (s.lease.at ≡ r.cells.at) × (s.lease.len ≡ r.cells.len)) };
+        × (s.lease.at ≡ r.cells.at) × (s.lease.len ≡ r.cells.len)) × DifferIn r.noted r.cells.home.1 r.cells.bytes };
 }
 
 impl Region {
@@ -50,6 +55,7 @@ impl Region {
                 Ok(Region {
                     cells: room.filled(),
                     source: Some(Source { lease, alloc }),
+                    noted: Runs::new(),
                 })
             }
             None => Err(HostFull),
@@ -62,7 +68,11 @@ impl Drop for Region {
     fn drop(self)
         requires nothing_lent { self.lent ≡ [] }
     {
-        let Region { cells, source } = self;
+        let Region {
+            cells,
+            source,
+            noted: _,
+        } = self;
         match source {
             Some(Source { lease, alloc }) => cells.free(lease, &alloc),
             None => drop(cells.hand_back()),

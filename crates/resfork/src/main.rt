@@ -2,6 +2,8 @@
 #![tactic(auto)]
 
 ghost use Rattle.std.specs.Prelude.{◌≡◌, ◌≤◌, if◌then◌else◌, IfOk};
+ghost use Rattle.fork_list.specs.Listing.{absent_kind};
+ghost use Rattle.resfork.specs.Problems.{IsToldOfKinds};
 ghost use Rattle.resfork.specs.Statuses.{status_after};
 
 mod change;
@@ -23,6 +25,7 @@ use fork_answer::request::Request;
 use fork_answer::{Failure, read_table, resource_fork};
 use fork_bytes::table::{Row, Table};
 use fork_disk::{Record, Unknown};
+use fork_list::absent_kind;
 use fork_list::letters::Letters;
 use fork_report::{
     Bytes, ContainerDamage, Digests, Form, InsideNote, Refusal, Report, Told, archive_inside,
@@ -37,6 +40,7 @@ use fork_words::{INPUT, work as asked_change};
 use host::Host;
 use input::{NotRead, read_file, read_within};
 use lines::with_words_in_lines;
+use mac_base::resource::ResType;
 use mac_files::OldFile;
 use mac_files::archive::Archive;
 use message::{
@@ -195,7 +199,10 @@ fn write_answer<W: Write>(
 fn unanswered(host: &Host<'_>, request: &Request, failure: Failure, bytes: &[u8]) -> Problem {
     match (request, failure) {
         (Request::Get(wanted), Failure::NotFound) => Problem::of_missing(host.alloc(), wanted),
-        (_, failure) => Problem::Refused(Refusal::of_failure(host.alloc(), failure, bytes)),
+        (_, failure) => {
+            let refusal = Refusal::of_failure(host.alloc(), failure, bytes);
+            Problem::of_refusal(host.alloc(), refusal, bytes)
+        }
     }
 }
 
@@ -239,7 +246,10 @@ fn report_file(host: &Host<'_>, report: &Report, file: &str) -> Result<Told, Pro
         return Ok(Told::whole(line?));
     }
     let bytes = read(host, file)?;
-    Ok(report_on(host.alloc(), report, file, &bytes)?)
+    match report_on(host.alloc(), report, file, &bytes) {
+        Ok(told) => Ok(told),
+        Err(refusal) => Err(Problem::of_refusal(host.alloc(), refusal, &bytes)),
+    }
 }
 
 /// Writes what is reported of the file of this name, and notes the archive in it. The result is its status.
@@ -368,11 +378,13 @@ fn save_salvaged(host: &Host<'_>, file: &str, bytes: &[u8], output: &str) -> Res
 /// The file that bytes hold, which has a resource fork.
 fn fork_found<'a>(host: &Host<'_>, bytes: &'a [u8]) -> Result<OldFile<'a>, Problem> {
     let alloc = host.alloc();
-    Ok(resource_fork(alloc, bytes).map_err(|fault| Refusal::of_failure(
-        alloc,
-        Failure::NoFork(fault),
-        bytes,
-    ))?)
+    match resource_fork(alloc, bytes) {
+        Ok(found) => Ok(found),
+        Err(fault) => {
+            let refusal = Refusal::of_failure(alloc, Failure::NoFork(fault), bytes);
+            Err(Problem::of_refusal(alloc, refusal, bytes))
+        }
+    }
 }
 
 /// The table of the resource fork that was found in a file.
@@ -431,12 +443,20 @@ impl TableUse for Viewing<'_> {
     }
 }
 
+/// Whether there is a resource of each of these types.
+pub fn check_kinds(kinds: &[ResType], rows: &[Row<'_>]) -> Result<(), Problem>
+    ensures { IsToldOfKinds (absent_kind kinds.now rows.now) result }
+{
+    match absent_kind(kinds, rows) {
+        Some(kind) => Err(Problem::NoKind(kind)),
+        None => Ok(()),
+    }
+}
+
 /// Whether there is a resource of the type of which all are asked for.
 fn check_kind(chosen: &Chosen, rows: &[Row<'_>]) -> Result<(), Problem> {
     match chosen {
-        Chosen::Kind(kind) if !rows.iter().any(|row| row.kind == *kind) => {
-            Err(Problem::NoKind(*kind))
-        }
+        Chosen::Kind(kind) => check_kinds(&[*kind], rows),
         _ => Ok(()),
     }
 }
@@ -464,6 +484,7 @@ fn write_sight(host: &Host<'_>, sight: &Sight, output: Option<&str>) -> Result<(
 impl TableUse for Unpacking<'_> {
     /// The resources are written to a folder.
     fn done(&self, host: &Host<'_>, bytes: &[u8], table: &Table<'_>) -> Result<u8, Problem> {
+        check_kinds(self.kinds.as_slice(), table.rows.as_slice())?;
         unpack(host.rt, self, bytes, table, &mut Record::new()).map_err(Problem::Unpack)?;
         Ok(DONE)
     }

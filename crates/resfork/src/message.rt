@@ -1,13 +1,13 @@
 //! What is printed on the standard error, and the exit statuses.
 
 ghost use Rattle.std.specs.Prelude.{◌≡◌};
-ghost use Rattle.resfork.specs.Problems.{IsToldOfChange, after_change};
+ghost use Rattle.resfork.specs.Problems.{IsRefusedAs, IsToldOfChange, after_change};
 ghost use Rattle.resfork.specs.Statuses.{status_of, status_of_words};
 
 use crate::host::Host;
 use crate::input::NotRead;
 use file_replace::NotReplaced;
-use fork_answer::Failure;
+use fork_answer::{Failure, NoFork};
 use fork_change::row::ResourceId;
 use fork_edit::change::NotChanged;
 use fork_edit::file::NotWritten;
@@ -15,7 +15,7 @@ use fork_folder::rows::PackFault;
 use fork_list::find::{Key, Wanted};
 use fork_list::letters::Letters;
 use fork_list::{KindText, Quoted};
-use fork_report::{InsideNote, Opening, Operand, Refusal};
+use fork_report::{InsideNote, Opening, Operand, Refusal, can_be_salvaged};
 use fork_rez::fault::RezFault;
 use fork_view::{NotShown, NotUnpacked, Untold};
 use fork_words::asked::NotAsked;
@@ -52,6 +52,9 @@ pub enum Problem {
     /// What it holds can't be shown.
     #[error("{0}")]
     Refused(#[from] Refusal),
+    /// Its container has a fault, in spite of which its resource fork can be read.
+    #[error("{0}")]
+    Salvageable(Refusal),
     /// The file of this name isn't written.
     #[error("{error}")]
     Output { path: String, error: NotReplaced },
@@ -64,6 +67,9 @@ pub enum Problem {
     /// No resource that is asked for has this type.
     #[error("there is no such resource")]
     NoKind(ResType),
+    /// There are no resources to be put into a file.
+    #[error("there are no resources in it, and nothing is put into a file: name some in it, or an OUT for a fork without any")]
+    Nothing,
     /// Two resources that are copied have one type and id.
     #[error("two of these resources have one type and id: copy them one by one, by get and put")]
     Twice,
@@ -175,12 +181,30 @@ impl Problem {
         ensures { IsToldOfChange file.now fault result }
     {
         match fault {
-            NotChanged::Read(failure) => Problem::Refused(Refusal::of_failure(
-                alloc, failure, file,
-            )),
+            NotChanged::Read(failure) => {
+                Problem::of_refusal(alloc, Refusal::of_failure(alloc, failure, file), file)
+            }
             NotChanged::Edit(refusal) => Problem::Edit(refusal),
             NotChanged::Write(fault) => Problem::Write(fault),
             NotChanged::HostFull => Problem::HostFull,
+        }
+    }
+
+    /// Why nothing is shown of this file. Where its container has a fault, it is known whether it can be salvaged.
+    pub fn of_refusal(alloc: Global, refusal: Refusal, file: &[u8]) -> Problem
+        ensures { IsRefusedAs file.now refusal result }
+    {
+        let Refusal::Container {
+            fault: NoFork::File(_),
+            ..
+        } = refusal
+        else {
+            return Problem::Refused(refusal);
+        };
+        if can_be_salvaged(alloc, file) {
+            Problem::Salvageable(refusal)
+        } else {
+            Problem::Refused(refusal)
         }
     }
 
@@ -213,6 +237,7 @@ impl Problem {
             | Problem::Edit(fork_change::Refusal::Missing(_))
             | Problem::Edit(fork_change::Refusal::Taken)
             | Problem::NoKind(_)
+            | Problem::Nothing
             | Problem::IsThere
             | Problem::Twice => NOT_FOUND,
             Problem::Terminal
@@ -220,11 +245,13 @@ impl Problem {
             | Problem::OneFile
             | Problem::View(NotShown::NoPicture(_))
             | Problem::View(NotShown::NoText)
+            | Problem::View(NotShown::Compressed(_))
             | Problem::View(NotShown::ManyPictures)
             | Problem::Untold(_) => BAD_WORDS,
             Problem::Pack(PackFault::HostFull) => CANT_GO_ON,
             Problem::Rez(RezFault::Refused(_))
             | Problem::Pack(_)
+            | Problem::Salvageable(_)
             | Problem::Apart(_)
             | Problem::NoText(_) => NO_FORK,
             _ => CANT_GO_ON,
@@ -272,7 +299,8 @@ pub fn tell_problem(host: &Host<'_>, file: &str, problem: &Problem) {
                 told,
                 is_readable: true,
             },
-        ) => tell_damaged(host, file, told),
+        ) => tell_damaged(host, file, told.as_str()),
+        Problem::Salvageable(refusal) => tell_salvageable(host, file, refusal),
         Problem::Edit(fork_change::Refusal::Missing(what)) => tell_missing(host, file, *what),
         Problem::NoKind(kind) => tell_no_kind(host, file, *kind),
         Problem::Untold(others) => tell_untold(host, file, others.as_slice()),
@@ -285,11 +313,19 @@ pub fn tell_problem(host: &Host<'_>, file: &str, problem: &Problem) {
 }
 
 /// Says that the fork of the file of this name is damaged, and how what can be read is had.
-fn tell_damaged(host: &Host<'_>, file: &str, told: &String) -> io::Result<()> {
+fn tell_damaged(host: &Host<'_>, file: &str, told: &str) -> io::Result<()> {
     let word = Operand(file);
     let file = FileName(file);
-    let told = Lines(told.as_str());
+    let told = Lines(told);
     eprintln!(host.rt; "{file}: {told}: resfork salvage {word} -o OUT")
+}
+
+/// Says which fault the container of the file of this name has, and how what can be read is had.
+fn tell_salvageable(host: &Host<'_>, file: &str, refusal: &Refusal) -> io::Result<()> {
+    match format!(in host.alloc(); "{refusal}") {
+        Ok(told) => tell_damaged(host, file, told.as_str()),
+        Err(_) => tell_words(host, file, &Problem::HostFull),
+    }
 }
 
 /// Reports a problem of the file of this name in its own words. They may have in them what others wrote, as a text of

@@ -10,6 +10,7 @@ use fork_answer::request::Request;
 use fork_answer::{Failure, answer_in_parts, rows_in_parts};
 use fork_disk::store::PlainStore;
 use fork_disk::{FileDisk, HostFile, World};
+use fork_list::has_marked;
 use fork_report::fork_line;
 use mac_base::resource::ResType;
 use std::alloc::AllocError;
@@ -28,7 +29,8 @@ fn file_of<W: World>(host: &Host<'_>, name: &str) -> Option<PlainStore<FileDisk<
 }
 
 /// Writes what is asked for of the file of this name. None where it isn't a resource fork and nothing else, where it is
-/// damaged, and where something is in the way: all of it has to be read then.
+/// damaged, where a resource of a list may be compressed, and where something is in the way: all of it has to be read
+/// then.
 pub fn answer_by_parts<W: World, O: Write>(
     host: &Host<'_>,
     request: &Request,
@@ -46,7 +48,8 @@ pub fn answer_by_parts<W: World, O: Write>(
     }
 }
 
-/// The list of the resources of the file of this name, as JSON. None where all of the file has to be read.
+/// The list of the resources of the file of this name, as JSON. None where all of the file has to be read, as where a
+/// resource may be compressed.
 pub fn list_by_parts<W: World>(
     host: &Host<'_>,
     name: &str,
@@ -54,5 +57,8 @@ pub fn list_by_parts<W: World>(
 ) -> Option<Result<String, AllocError>> {
     let mut store = file_of::<W>(host, name)?;
     let rows = rows_in_parts(host.alloc(), &mut store)?.ok()?;
+    if has_marked(rows.as_slice()) {
+        return None;
+    }
     Some(fork_line(host.alloc(), name, kinds, rows.as_slice()))
 }

@@ -10,12 +10,12 @@ use crate::message::{DONE, Problem};
 use crate::save::OUTPUT;
 use crate::unlisted::with_unlisted;
 use crate::work::{Failed, copy_rows, file_at_fault, of_file};
-use crate::{TableUse, read, read_other, read_whole, unread, use_table};
+use crate::{TableUse, check_kinds, read, read_other, read_whole, unread, use_table};
 use fork_bytes::layout::MAX_BYTES;
 use fork_bytes::table::{Row, Table};
 use fork_change::{Choice, Collision, Refusal};
 use fork_edit::file::{NotWritten, with_table};
-use fork_edit::replaced::{Lost, lost_of};
+use fork_edit::replaced::{Lost, keeps_others, lost_of};
 use fork_folder::manifest::{Packing as Manifest, manifest_of};
 use fork_folder::rows::{Entry, packed};
 use fork_list::Quoted;
@@ -44,6 +44,7 @@ struct Derez<'a>(&'a [ResType]);
 
 impl TableUse for Derez<'_> {
     fn done(&self, host: &Host<'_>, _bytes: &[u8], table: &Table<'_>) -> Result<u8, Problem> {
+        check_kinds(self.0, table.rows.as_slice())?;
         let text = derez(host.alloc(), self.0, table)?;
         host.output().write_all(&text).map_err(Problem::Print)?;
         Ok(DONE)
@@ -104,7 +105,7 @@ fn deliver<'a>(
     }
 }
 
-/// Puts rows into a file that is there.
+/// Puts rows, of which there are some, into a file that is there.
 fn put_rows<'a>(
     host: &Host<'_>,
     source: &'a str,
@@ -114,6 +115,12 @@ fn put_rows<'a>(
 ) -> Result<u8, Failed<'a>>
     ensures { IfOk result (λ status. status ≡ DONE) }
 {
+    if rows.is_empty() {
+        return Err(Failed {
+            file: source,
+            problem: Problem::Nothing,
+        });
+    }
     let mut chosen = Vec::new(host.alloc());
     if chosen.push(Choice::All).is_err() {
         return Err(Failed {
@@ -149,9 +156,9 @@ fn is_container(bytes: &[u8]) -> bool {
     !kind_of(bytes).is_alone()
 }
 
-/// Refuses to write over a file that has more than a resource fork, unless the new one is like another file, or that has
-/// resources which the new one lacks, or that can't be looked at.
-fn check_free(host: &Host<'_>, name: &str, like: &[u8], rows: &[Row<'_>]) -> Result<(), Problem> {
+/// Refuses to write a new file with a table over a file that has more than a resource fork, unless the new one has all
+/// that, too; or that has resources which the new one lacks, or that can't be looked at.
+fn check_free(host: &Host<'_>, name: &str, table: &Table<'_>, new: &[u8]) -> Result<(), Problem> {
     match fs::metadata(host.rt, name) {
         Ok(found) if found.is_file() && name != OUTPUT => {}
         _ => return Ok(()),
@@ -161,11 +168,11 @@ fn check_free(host: &Host<'_>, name: &str, like: &[u8], rows: &[Row<'_>]) -> Res
         Err(error) => return unread(host, name, error),
     };
     let alloc = host.alloc();
-    if like.is_empty() && is_container(&bytes) {
+    if is_container(&bytes) && !keeps_others(alloc, &bytes, table, new)? {
         return Err(Problem::Container(String::from_str(alloc, name)?));
     }
     let path = String::from_str(alloc, name)?;
-    match lost_of(alloc, &bytes, rows)? {
+    match lost_of(alloc, &bytes, table.rows.as_slice())? {
         Lost::Nothing => Ok(()),
         Lost::Resources(count) => Err(Problem::Lacking { path, count }),
         Lost::Unknown => Err(Problem::NotFork(path)),
@@ -210,12 +217,11 @@ fn write_table(
 {
     let alloc = host.alloc();
     let name = written_file(target);
-    let rows = table.rows.as_slice();
-    if !is_forced {
-        check_free(host, name, like, rows)?;
-    }
-    check_together(alloc, rows)?;
+    check_together(alloc, table.rows.as_slice())?;
     let file = with_table(alloc, like, table).map_err(Problem::Write)?;
+    if !is_forced {
+        check_free(host, name, table, &file)?;
+    }
     write_output(host, target, &file)?;
     let count = table.rows.as_slice().len();
     let length = file.len();

@@ -105,13 +105,17 @@ pub fn with_unlisted(
         let path = String::from_str(alloc, path.as_str())?;
         return Err(Problem::Pack(PackFault::Unlisted(path)));
     }
+    let mut paths = Vec::new(alloc);
+    for path in &others {
+        paths.push(path.as_str()).map_err(AllocError::from)?;
+    }
     let Packing {
         entries,
         extra,
         map_attributes,
     } = packing;
     Ok(Packing {
-        entries: with_added(alloc, entries, &others).map_err(Problem::Pack)?,
+        entries: with_added(alloc, entries, &paths).map_err(Problem::Pack)?,
         extra,
         map_attributes,
     })

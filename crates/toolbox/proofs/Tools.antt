@@ -62,12 +62,12 @@ module _ (honest : ℕ → Type 0) where
       let same_before : before ≡ old.resources.heap = ap (λ (s : ResState). s.heap) same in
       let same_after : step.after.heap ≡ new.resources.heap = ap (λ (s : ResState). s.heap) (step.becomes none (none_honest honest)) in
       let same_shape : step.before.shape ≡ old.resources.shape = ap (λ (s : ResState). s.shape) same in
-      let made = made-of-acts old.loans (answered_disks honest Anything) step.device step.before rc asks (record { outcome = outcome; state = step.after }) (subst LoansAreFixed (sym same_before) held.fixed) step.step in (
+      let made = made-of-acts old.loans (answered_disks honest Anything) (λ k disk read is. is.0) step.device step.before rc asks (record { outcome = outcome; state = step.after }) (subst LoansAreFixed (sym same_before) held.fixed) step.step in (
         made.run,
         record {
           run = subst (λ (s : Shape). AreDone s (moment_of old) made.run) same_shape (subst (λ (h : Heap). AreDone step.before.shape (moment h old.loans) made.run) same_before made.is);
           ends = subst (λ (h : Heap). moment_after (moment h old.loans) made.run ≡ moment step.after.heap old.loans) same_before made.ends ∙ ap (λ (h : Heap). moment h old.loans) same_after ∙ ap (moment new.resources.heap) (sym does.1);
-          own = (step.before, was, made.acts);
+          own = (step.before, step.was, made.acts);
         },
       )
   call-acts old MemError asks outcome new held does = no-act old MemError asks outcome new does.0 does.1 refl

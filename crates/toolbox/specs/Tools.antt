@@ -1,5 +1,5 @@
 -- Runs of calls of the Memory Manager, of the Resource Manager and on loans.
-use Rattle.std.specs.Prelude.{◌≡◌, ℕ, All, List, [], ◌∷◌, ◌++◌, flat_map, map, ⊤}
+use Rattle.std.specs.Prelude.{◌≡◌, ℕ, List, [], ◌∷◌, ◌++◌, flat_map, map, ⊤}
 use Rattle.mac_base.specs.Heap.{Heap}
 use Rattle.mac_base.specs.ZoneSizes.{ArePossible, ZoneSizes, shape_of}
 use Rattle.mac_base.specs.declared.call.Call.{Call}
@@ -10,7 +10,7 @@ use Rattle.mac_base.specs.LoanStep.{Loans, LoanStep}
 use Rattle.mac_base.specs.Outcomes.{Outcome}
 use Rattle.mac_base.specs.Released.{disposed_of}
 use Rattle.res_table.specs.OpenFiles.{no_files}
-use Rattle.res_update.specs.Answered.{AnswersStep, IsAnswered}
+use Rattle.res_update.specs.Answered.{AnswersStep, WasAnswered}
 use Rattle.res_update.specs.Device.{Anything}
 use Rattle.res_update.specs.Changes.{handles_forgotten}
 use Rattle.res_update.specs.Files.{ResState, with_files, with_heap}
@@ -19,7 +19,7 @@ use Rattle.zone_laws.specs.LastPut.{LastPut, put_in}
 use Rattle.zone_laws.specs.LastSet.{LastSet, set_in}
 use Rattle.zone_laws.specs.Act.{Act, Calls, Done, AreDone, Moment, OnLoan, moment_after, new_zone}
 use Rattle.zone_laws.specs.Headline.{Promised}
-use Rattle.toolbox.specs.Acts.{IsActOf}
+use Rattle.toolbox.specs.Acts.{AreResourceActs}
 use Rattle.toolbox.specs.Forks.{ReadOffForks}
 
 -- the zone, the resource files and their disks, and the blocks that are lent
@@ -74,7 +74,7 @@ UpdateReadsBack honest old _ outcome new = ⊤
 abbrev pub AreActsOf : (ℕ → Type 0) → Tools → Call → List Ask → Outcome → List Act → Type 0
 AreActsOf honest old (MemoryCalls call) asks outcome acts = acts ≡ Calls call asks outcome ∷ []
 AreActsOf honest old (Loan call) asks outcome acts = acts ≡ OnLoan call outcome ∷ []
-AreActsOf honest old (Resource call) asks outcome acts = (answered : ResState) × IsAnswered honest old.resources answered × All (IsActOf answered call) acts
+AreActsOf honest old (Resource call) asks outcome acts = (answered : ResState) × WasAnswered honest old.resources call answered × AreResourceActs answered call asks outcome acts
 AreActsOf honest old _ asks outcome acts = acts ≡ []
 
 -- the act that was done
@@ -108,7 +108,7 @@ pub record Headline (honest : ℕ → Type 0) (start : Tools) (calls : List Call
       → Promised start.resources.shape (moment_after (moment_of start) first) part (put_in first put) (set_in first set)
   -- Every updated fork reads back as the resource table.
   pub forks : (first later : List Called) (called : Called) → calls ≡ first ++ (called ∷ later) → UpdateReadsBack honest (tools_after start first) called.call called.outcome called.tools
-  -- Each row of an open file has the bytes that its fork has, and a load puts these (`IsActOf`).
+  -- Each row of an open file has the bytes that its fork has, and a load puts these (`AreResourceActs`).
   pub rows : (first later : List Called) → calls ≡ first ++ later → ReadOffForks honest (tools_after start first).resources
 
 -- So it is for each list of calls from a new zone on, whatever is on the disks, where no file is open, and this says of

@@ -21,7 +21,7 @@ abbrev pub master_of : ZoneSizes → ℕ
 master_of z = need z.heads master_length
 
 -- what is left of a new zone after it is a block
-rest_size : (heads : HeadKind) (size : ℕ) → size % 4 ≡ 0 → 1024 ≤ size → (need heads master_length < size - 52) × (((size - 52 - need heads master_length) % 4 == 0) && nat_le (smallest_block heads) (size - 52 - need heads master_length)) ≡ true
+rest_size : (heads : HeadKind) (size : ℕ) → size % 4 ≡ 0 → 512 ≤ size → (need heads master_length < size - 52) × (((size - 52 - need heads master_length) % 4 == 0) && nat_le (smallest_block heads) (size - 52 - need heads master_length)) ≡ true
 rest_size Bits24 size even large = (omega arith, grind (arith, nat_tests))
 rest_size Bits32 size even large = (omega arith, grind (arith, nat_tests))
 

@@ -23,7 +23,7 @@ slots_from-once (suc n) at = (slots_from-above n (at + 4) at (omega arith), slot
 
 -- the sizes of a new zone's two blocks are possible, where these are the bytes of a master block and of the smallest
 -- one
-rest_size : (master small size : ℕ) → (master ≡ 264) × (small ≡ 12) ⊎ (master ≡ 268) × (small ≡ 16) → size % 4 ≡ 0 → 1024 ≤ size
+rest_size : (master small size : ℕ) → (master ≡ 264) × (small ≡ 12) ⊎ (master ≡ 268) × (small ≡ 16) → size % 4 ≡ 0 → 512 ≤ size
     → (((master % 4 == 0) && nat_le small master) && ((((size - (52 + master)) % 4 == 0) && nat_le small (size - (52 + master))) && true)) ≡ true
 rest_size master small size (inl (m, s)) even large = grind (arith, nat_tests)
 rest_size master small size (inr (m, s)) even large = grind (arith, nat_tests)

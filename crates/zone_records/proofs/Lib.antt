@@ -27,6 +27,7 @@ mod Blocks
 mod Adopted
 mod ZoneSlots
 pub mod FreeWalk
+mod Listed
 mod Linked
 mod RightBlocks
 mod SaidPlaces

@@ -7,6 +7,7 @@ mod chained;
 mod faults;
 mod finding;
 mod linking;
+mod listing;
 mod lookup;
 mod masters;
 mod ranges;
@@ -15,6 +16,7 @@ mod slot;
 mod structure;
 
 pub use block_bytes::{NotAdopted, WhyNot};
+pub use listing::list_runs;
 pub use records::Records;
 pub use slot::Slot;
 pub use structure::{Agreement, Part, Written};

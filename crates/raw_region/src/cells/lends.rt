@@ -20,7 +20,7 @@ impl Cells {
 
     /// Where the first of them is in the memory of the host.
     pub(crate) fn start(&self) -> *mut u8
-        ensures { result ≡ self.now.home +ₚ self.now.from }
+        ensures { result ≡ self.now.home.0 +ₚ self.now.from }
     {
         self.at
     }

@@ -18,7 +18,7 @@ impl Lent {
     /// Where the first of its bytes is in the memory of the host: as far after the region's first byte as the
     /// range begins in the region. Whoever writes there by the pointer holds no slice of the loan meanwhile.
     pub fn start(&self) -> *mut u8
-        ensures { result ≡ self.now.name +ₚ self.now.at }
+        ensures { result ≡ self.now.name.0 +ₚ self.now.at }
     {
         self.cells.start()
     }

@@ -37,7 +37,7 @@ impl Room {
     pub(crate) fn filled(self) -> Cells
         requires { self.done ≡ room_len self }
         ensures { (result.bytes ≡ replicate (room_len self) 0) × (result.lent ≡ []) × (result.from ≡ 0)
-            × (cells_at result ≡ room_at self) }
+            × (cells_at result ≡ room_at self) × (result.home.1 ≡ result.bytes) }
     {
         let Room { at, len } = self;
         Cells { at, len }

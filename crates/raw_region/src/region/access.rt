@@ -4,13 +4,22 @@ ghost use Rattle.std.specs.Prelude.{◌≡◌, ◌+◌, ◌≤◌, length, repli
 ghost use Rattle.std.specs.Borrow.{sem};
 ghost use Rattle.byteorder.specs.Endian.{big_bytes, big_number};
 ghost use Rattle.raw_region.specs.Bytes.{part, written};
+ghost use Rattle.raw_region.specs.Runs.{DifferIn};
 ghost use Rattle.raw_region.specs.Span.{IsFree};
 ghost use Rattle.raw_region.specs.WritingBack.{WritesBackBytes};
 
 use super::Region;
+use crate::runs::{Run, Runs};
 use byteorder::{BigEndian, ByteOrder};
 
 impl Region {
+    /// The runs of bytes that may differ from those that the region had at first. No others do.
+    pub fn noted(&self) -> Runs
+        ensures { DifferIn result self.now.name.1 self.now.bytes }
+    {
+        self.noted
+    }
+
     /// How many bytes the region has, lent ones among them.
     pub fn len(&self) -> usize
         ensures { result ≡ length self.now.bytes }
@@ -38,6 +47,10 @@ impl Region {
         ensures value { result.now ≡ part self.old.bytes at n }
         ensures len { length result.now ≡ n }
     {
+        self.noted.add(Run {
+            start: at,
+            end: at + n,
+        });
         self.cells.bytes_mut(at, n)
     }
 

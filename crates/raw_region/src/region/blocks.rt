@@ -5,6 +5,7 @@ ghost use Rattle.raw_region.specs.Bytes.{part, written};
 ghost use Rattle.raw_region.specs.Span.{IsFree};
 
 use super::Region;
+use crate::runs::Run;
 
 /// The bytes up to which a slide whose ranges overlap moves them all at once.
 const SHORT: usize = 512;
@@ -39,9 +40,15 @@ impl Region {
         ensures name { self.new.name ≡ self.old.name }
         ensures lent { self.new.lent ≡ self.old.lent }
     {
-        let source = self.lend(from, n);
-        self.bytes_mut(to, n).copy_from_slice(source.bytes());
-        self.give_back(source);
+        let source = self.cells.take_out(from, n);
+        self.noted.add(Run {
+            start: to,
+            end: to + n,
+        });
+        self.cells
+            .bytes_mut(to, n)
+            .copy_from_slice(source.bytes(0, n));
+        self.cells.put_in(source);
     }
 
     /// Moves the `n` bytes from `from` on to the `n` bytes from `to` on, also where the two ranges overlap. Both are

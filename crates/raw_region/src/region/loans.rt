@@ -7,6 +7,7 @@ ghost use Rattle.raw_region.specs.State.{byte_at, loan_at};
 
 use super::Region;
 use crate::loan::Lent;
+use crate::runs::Run;
 
 impl Region {
     /// Lends the `n` bytes from `at` on: they leave the region, and who has the loan reads and writes them. The range
@@ -29,6 +30,7 @@ impl Region {
     {
         Lent {
             cells: self.cells.take_out(at, n),
+            at,
         }
     }
 
@@ -44,7 +46,10 @@ impl Region {
         ensures moved { (k : ℕ) → byte_at self.new k
             ≡ (if covers (lent.at, length lent.bytes) k then loan_at lent k else byte_at self.old k) }
     {
-        let Lent { cells } = lent;
+        let Lent { cells, at } = lent;
+        let _len = self.cells.len();
+        let end = at + cells.len();
+        self.noted.add(Run { start: at, end });
         self.cells.put_in(cells);
     }
 }

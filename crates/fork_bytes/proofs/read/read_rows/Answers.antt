@@ -7,7 +7,7 @@ use Rattle.fork_bytes.specs.Rows.{Row, MapRow}
 use Rattle.fork_bytes.specs.Fork.{data_of, map_of, map_rows, row_with, HasData, RefusesWithin}
 use Rattle.fork_bytes.specs.Reading.{IsMapWithin, RefusesMapWithin, FaultsAt}
 use Rattle.fork_bytes.proofs.Faults.{map_refuses, places_refuse, bytes_refuse, is_fork}
-use Rattle.fork_bytes.proofs.Placing.{FewInRows, few_from_rows, few_to_rows}
+use Rattle.fork_bytes.proofs.Placing.{FewInRows, few_from_rows, few_to_rows, most_by_header}
 use Rattle.fork_bytes.proofs.Whole.{parts_of_fork, map_is, map_is_long}
 use Rattle.fork_bytes.proofs.read.read_rows.Goals as goal
 
@@ -43,8 +43,9 @@ returns-in_err-check_data-clause-refuses c =
     let P : List MapRow → Type 0 = HasData (data_of fork) in
     let places = subst P read c.in_ok-rows-2.ensures.has in
     let rows = c.deref.ensures.value ∙ c.in_ok-rows-2.ensures.rows ∙ ap (map (row_with (data_of fork))) read in
-    let R : List Row → Type 0 = FewInRows c.args.limits in
-    let refuses = bytes_refuse c.args.limits fork c.requires.whole parts holds places (λ few. c.in_err-check_data.ensures.fails (subst R (sym rows) (few_to_rows c.args.limits (data_of fork) (map_rows (map_of fork)) places few))) in
+    let R : List Row → Type 0 = FewInRows c.most_bytes.result in
+    let most = c.most_bytes.ensures.most ∙ most_by_header c.args.limits fork c.args.header c.requires.header c.requires.parts.whole_data in
+    let refuses = bytes_refuse c.args.limits fork c.requires.whole parts holds places (λ few. c.in_err-check_data.ensures.fails (subst R (sym rows) (few_to_rows c.args.limits (data_of fork) (map_rows (map_of fork)) _ most places few))) in
     IfErr-weaker c.from_residual-in_err-check_data.result (λ fault. fault ≡ BadMap ByteCount) _ (λ fault is. (let S : ForkFault → Type 0 = RefusesWithin c.args.limits fork in subst S (sym is) refuses)) (search rules)
 
 pub returns-clause-rows : goal.returns-clause-rows
@@ -63,5 +64,6 @@ returns-clause-fork c =
     let P : List MapRow → Type 0 = HasData (data_of fork) in
     let places = subst P read c.in_ok-rows-2.ensures.has in
     let rows = c.deref.ensures.value ∙ c.in_ok-rows-2.ensures.rows ∙ ap (map (row_with (data_of fork))) read in
-    let R : List Row → Type 0 = FewInRows c.args.limits in
-    is_fork c.args.limits fork c.requires.whole parts holds places (few_from_rows c.args.limits (data_of fork) (map_rows (map_of fork)) places (subst R rows c.in_ok-check_data.ensures.few))
+    let R : List Row → Type 0 = FewInRows c.most_bytes.result in
+    let most = c.most_bytes.ensures.most ∙ most_by_header c.args.limits fork c.args.header c.requires.header c.requires.parts.whole_data in
+    is_fork c.args.limits fork c.requires.whole parts holds places (few_from_rows c.args.limits (data_of fork) (map_rows (map_of fork)) _ most places (subst R rows c.in_ok-check_data.ensures.few))

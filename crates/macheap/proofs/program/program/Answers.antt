@@ -1,6 +1,9 @@
 use Rattle.std.proofs.Common.{[], refl, sym}
 use Rattle.std.proofs.lemmas.List.{append-nil}
+use Rattle.script_run.proofs.Agreeing.{runs-agree}
 use Rattle.script_run.proofs.Known.{Gave-none}
+use Rattle.script_run.proofs.Recovered.{run-recovers}
+use Rattle.script_run.proofs.Shown.{run-shows}
 use Rattle.macheap.proofs.Ending.{answered, was_refused}
 use Rattle.macheap.proofs.program.program.Goals as goal
 
@@ -15,3 +18,21 @@ pub returns-in-Err-clause-ends : goal.returns-in-Err-clause-ends
 returns-in-Err-clause-ends g c =
     let told = c.refuse.ensures.ends in
     ([], [], sym (append-nil _), sym (append-nil _), ([], Gave-none _ _, (told.0, told.1, told.2, told.3, was_refused _ _ _ _ _ c.in-Err.error c.in-Err.ensures (refl, refl, refl) told.4)))
+
+pub returns-in-Ok-clause-headline : goal.returns-in-Ok-clause-headline
+returns-in-Ok-clause-headline g c = (run-shows g.S.ForkStore, run-shows g.J.ForkStore)
+
+pub returns-in-Ok-clause-recovers : goal.returns-in-Ok-clause-recovers
+returns-in-Ok-clause-recovers g c = (run-recovers g.S.ForkStore, run-recovers g.J.ForkStore)
+
+pub returns-in-Ok-clause-exact : goal.returns-in-Ok-clause-exact
+returns-in-Ok-clause-exact g c = (runs-agree g.S.ForkStore, runs-agree g.J.ForkStore)
+
+pub returns-in-Err-clause-headline : goal.returns-in-Err-clause-headline
+returns-in-Err-clause-headline g c = (run-shows g.S.ForkStore, run-shows g.J.ForkStore)
+
+pub returns-in-Err-clause-recovers : goal.returns-in-Err-clause-recovers
+returns-in-Err-clause-recovers g c = (run-recovers g.S.ForkStore, run-recovers g.J.ForkStore)
+
+pub returns-in-Err-clause-exact : goal.returns-in-Err-clause-exact
+returns-in-Err-clause-exact g c = (runs-agree g.S.ForkStore, runs-agree g.J.ForkStore)

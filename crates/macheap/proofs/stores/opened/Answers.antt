@@ -2,7 +2,7 @@ use Rattle.std.proofs.Common.{◌≡◌, List, ℕ, [], ◌∷◌, ◌++◌, ◌
 use Rattle.std.proofs.lemmas.List.{append-nil, map-append, take_all}
 use Rattle.clap.specs.Words.{Text}
 use Rattle.macheap.specs.Claiming.{AreNamed, IsNamed}
-use Rattle.macheap.specs.declared.claimed.FileId.{FileId}
+use Rattle.host_paths.specs.declared.host.Found.{Found}
 use Rattle.macheap.specs.Stores.{Asked, Opening}
 use Rattle.macheap.proofs.Opening.{all_asked, asked_length, asked_more, cant_next, named_more, same_default, some_first}
 use Rattle.macheap.proofs.stores.opened.Goals as goal
@@ -45,15 +45,15 @@ loop-path-preserved g c =
     let opening : Opening g.row.F.Denot = (path.now, Ok file) in
     let more = asked_more [] paths now_of at path c.loop-path.files.items file i.0 c.loop-path-test.true (same_default paths at nowhere path c.loop-path-test.true) i.2 in
     let is : IsNamed g.O.Opens.asking c.args.naming (c.args.known.now.items ++ map g.O.Opens.asking.id c.loop-path.files.items) path.now file
-    = subst (λ (ids : List FileId). IsNamed g.O.Opens.asking c.args.naming ids path.now file) (c.as_slice.ensures.value ∙ i.4) c.in-Ok.ensures.opens in
+    = subst (λ (ids : List Found). IsNamed g.O.Opens.asking c.args.naming ids path.now file) (c.as_slice.ensures.value ∙ i.4) c.in-Ok.ensures.opens in
     let named = named_more g.O.Opens.asking c.args.naming c.args.known.now.items [] paths now_of at path c.loop-path.files.items file c.loop-path-test.true (same_default paths at nowhere path c.loop-path-test.true) i.3 is in (
       i.0 ++ opening ∷ [],
       c.in-Ok.ensures.noted ∙ ap (λ (t : List (Opening g.row.F.Denot)). t ++ opening ∷ []) i.1 ∙ append_assoc _ i.0 (opening ∷ []),
       subst (λ (files : List g.row.F.Denot). Asked (map now_of (take (at + 1) paths)) (map Ok files) (i.0 ++ opening ∷ [])) (sym c.in-Ok-push_both.ensures.items) more,
       subst (AreNamed g.O.Opens.asking c.args.naming c.args.known.now.items (map now_of (take (at + 1) paths))) (sym c.in-Ok-push_both.ensures.items) named,
-      c.in-Ok-push_both.ensures.known ∙ ap (λ (ids : List FileId). ids ++ c.id-id.result ∷ []) i.4 ∙ append_assoc c.args.known.now.items _ (c.id-id.result ∷ [])
-          ∙ ap (λ (ids : List FileId). c.args.known.now.items ++ ids)
-          (ap (λ (id : FileId). map g.O.Opens.asking.id c.loop-path.files.items ++ id ∷ []) c.id-id.ensures ∙ sym (map-append g.O.Opens.asking.id c.loop-path.files.items (file ∷ [])) ∙ ap (map g.O.Opens.asking.id) (sym c.in-Ok-push_both.ensures.items)),
+      c.in-Ok-push_both.ensures.known ∙ ap (λ (ids : List Found). ids ++ c.id-id.result ∷ []) i.4 ∙ append_assoc c.args.known.now.items _ (c.id-id.result ∷ [])
+          ∙ ap (λ (ids : List Found). c.args.known.now.items ++ ids)
+          (ap (λ (id : Found). map g.O.Opens.asking.id c.loop-path.files.items ++ id ∷ []) c.id-id.ensures ∙ sym (map-append g.O.Opens.asking.id c.loop-path.files.items (file ∷ [])) ∙ ap (map g.O.Opens.asking.id) (sym c.in-Ok-push_both.ensures.items)),
       c.in-Ok.ensures.none_closed ∙ i.5,
     )
 

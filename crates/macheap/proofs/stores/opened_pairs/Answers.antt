@@ -3,7 +3,7 @@ use Rattle.std.specs.Vec.Iter.{into_iter_items}
 use Rattle.std.proofs.lemmas.List.{append-nil, map-append}
 use Rattle.clap.specs.Words.{Text}
 use Rattle.macheap.specs.Claiming.{AreNamed, IsNamed}
-use Rattle.macheap.specs.declared.claimed.FileId.{FileId}
+use Rattle.host_paths.specs.declared.host.Found.{Found}
 use Rattle.macheap.specs.declared.claimed.Naming.TheVariants.{Once}
 use Rattle.macheap.specs.Stores.{Asked, Opening}
 use Rattle.macheap.proofs.Opening.{asked_more, asked_none, cant_next, fault_widen, fewer, named_more, named_none, same_default, some_first}
@@ -37,7 +37,7 @@ loop-fork-init g c =
     let asked : Asked before (map Ok items) opened.0 = subst (λ (files : List g.row.F.Denot). Asked before (map Ok files) opened.0) (sym given.0) opened.2 in
     let named : AreNamed g.O.Opens.asking Once [] before items
     = subst (AreNamed g.O.Opens.asking Once [] before) (sym given.0)
-    (subst (λ (ids : List FileId). AreNamed g.O.Opens.asking Once ids before c.in-Ok.forks.items) c.new-known.ensures.items c.in-Ok.ensures.named) in (
+    (subst (λ (ids : List Found). AreNamed g.O.Opens.asking Once ids before c.in-Ok.forks.items) c.new-known.ensures.items c.in-Ok.ensures.named) in (
       opened.0,
       opened.1,
       subst (λ (ps : List (g.row.F.Denot × g.row.F.Denot)). Asked (before ++ map now_of (take 0 names)) (map Ok (items ++ map journal_of ps)) opened.0) none (asked_none before names now_of items opened.0 asked),
@@ -47,7 +47,7 @@ loop-fork-init g c =
       given.1 ∙ c.in-Ok.forks.ok.0 ∙ ap length (sym given.0),
       subst (λ (ps : List (g.row.F.Denot × g.row.F.Denot)). AreNamed g.O.Opens.asking Once [] (before ++ map now_of (take 0 names)) (items ++ map journal_of ps)) none
           (named_none g.O.Opens.asking Once before names now_of items named),
-      c.in-Ok.ensures.known ∙ ap (λ (ids : List FileId). ids ++ map g.O.Opens.asking.id c.in-Ok.forks.items) c.new-known.ensures.items
+      c.in-Ok.ensures.known ∙ ap (λ (ids : List Found). ids ++ map g.O.Opens.asking.id c.in-Ok.forks.items) c.new-known.ensures.items
           ∙ ap (map g.O.Opens.asking.id) (sym given.0 ∙ sym (append-nil items) ∙ ap (λ (ps : List (g.row.F.Denot × g.row.F.Denot)). items ++ map journal_of ps) none),
       c.in-Ok.ensures.none_closed,
     )
@@ -118,7 +118,7 @@ loop-fork-preserved g c =
     let opening : Opening g.row.F.Denot = (path.now, Ok journal) in
     let more = asked_more before names now_of at path (items ++ used) journal i.0 lt is i.2 in
     let one : IsNamed g.O.Opens.asking Once (map g.O.Opens.asking.id (items ++ used)) path.now journal
-    = subst (λ (ids : List FileId). IsNamed g.O.Opens.asking Once ids path.now journal) (c.as_slice.ensures.value ∙ i.8) c.in-Ok-open.ensures.opens in
+    = subst (λ (ids : List Found). IsNamed g.O.Opens.asking Once ids path.now journal) (c.as_slice.ensures.value ∙ i.8) c.in-Ok-open.ensures.opens in
     let named = named_more g.O.Opens.asking Once [] before names now_of at path (items ++ used) journal lt is i.7 one in
     let longer = sym (length-append now.yielded (fork ∷ [])) in
     let grown = append_assoc items used (journal ∷ []) ∙ ap (λ (js : List g.row.F.Denot). items ++ js) (sym (map-append journal_of now.pairs.items (pair ∷ [])))
@@ -136,7 +136,7 @@ loop-fork-preserved g c =
           omega (arith, was, gone, short),
       subst (AreNamed g.O.Opens.asking Once [] (before ++ map now_of (take (length (now.yielded ++ fork ∷ [])) names))) grown
           (subst (λ (n : ℕ). AreNamed g.O.Opens.asking Once [] (before ++ map now_of (take n names)) ((items ++ used) ++ journal ∷ [])) longer named),
-      pushed.known ∙ ap (λ (ids : List FileId). ids ++ c.id-id.result ∷ []) i.8
-          ∙ ap (λ (id : FileId). map g.O.Opens.asking.id (items ++ used) ++ id ∷ []) c.id-id.ensures ∙ sym (map-append g.O.Opens.asking.id (items ++ used) (journal ∷ [])) ∙ ap (map g.O.Opens.asking.id) grown,
+      pushed.known ∙ ap (λ (ids : List Found). ids ++ c.id-id.result ∷ []) i.8
+          ∙ ap (λ (id : Found). map g.O.Opens.asking.id (items ++ used) ++ id ∷ []) c.id-id.ensures ∙ sym (map-append g.O.Opens.asking.id (items ++ used) (journal ∷ [])) ∙ ap (map g.O.Opens.asking.id) grown,
       c.in-Ok-open.ensures.none_closed ∙ i.9,
     )

@@ -3,7 +3,7 @@ use Rattle.std.proofs.lemmas.Bool.Decides.{nat_tests}
 use Rattle.std.proofs.lemmas.List.{append-nil}
 use Rattle.clap.specs.Words.{Text}
 use Rattle.macheap.specs.Claiming.{AreNamed}
-use Rattle.macheap.specs.declared.claimed.FileId.{FileId}
+use Rattle.host_paths.specs.declared.host.Found.{Found}
 use Rattle.macheap.specs.declared.claimed.Naming.TheVariants.{Repeated}
 use Rattle.macheap.proofs.Ending.{no_names, some_names}
 use Rattle.macheap.proofs.Opening.{none_given, plain_opened}
@@ -27,5 +27,5 @@ returns-clause-stores g c =
     let some : length c.args.paths.now ≢ 0 = grind (arith, nat_tests, is, so) in
     let opened = c.in-Ok.ensures.files in
     let on = c.stores_on.ensures in
-    let named = subst (λ (ids : List FileId). AreNamed g.O.Opens.asking Repeated ids (map now_of c.args.paths.now) c.in-Ok.forks.items) c.new-known.ensures.items c.in-Ok.ensures.named in
+    let named = subst (λ (ids : List Found). AreNamed g.O.Opens.asking Repeated ids (map now_of c.args.paths.now) c.in-Ok.forks.items) c.new-known.ensures.items c.in-Ok.ensures.named in
     (opened.0, opened.1, plain_opened g.O.Opens.asking g.S.ForkStore g.O.Opens.plain (map now_of c.args.paths.now) c.in-Ok.forks.items opened.0 (some_names now_of c.args.paths.now some) opened.2 c.stores_on.result on.stores on.full named)

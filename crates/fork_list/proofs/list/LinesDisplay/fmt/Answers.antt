@@ -13,7 +13,7 @@ pub loop-row-preserved : goal.loop-row-preserved
 loop-row-preserved g c plain =
     let so_far = c.loop-row.invariant plain in
     let rows = c.args.self.now.rows.now in
-    let line = row_line g.D.HasSize.size c.args.self.now.letters c.args.self.now.kinds.now in
+    let line = row_line g.D.HasSize.size g.D.HasSize.unpacked c.args.self.now.letters c.args.self.now.kinds.now in
     let row = c.row-item.result in
     let before = take c.loop-row.row-index rows in
     let more = take_more rows c.loop-row.row-index row c.loop-row-test.true in

@@ -47,7 +47,7 @@ hand_back_spec 𝓤 𝓛 𝓜 𝓡 wired =
     let d = a.0 in let n = d.len in let y : W.Ghost = ((κs, qs, bounds, a, (vals d, tt)), tt) in let Post : Val → SProp 𝓤 = W.post y in
     let Asked : Type 0 = (d.lent ≡ []) × (d.from ≡ 0) in
     qed 𝓛 ((‵ ftrue ⊛ ‵ (Row.own_val d (vals d)) ⊛ ‵ ftrue) ∷ raw (fact 𝓤 Asked) ∷ []) ∵
-    move ! (1 ∷ []) $ heard ! _ (λ asked. let here : d.at ≡ d.home = d.placed ∙ ap (λ (k : ℕ). d.home +ₚ k) asked.1 ∙ nearest d.home in
+    move ! (1 ∷ []) $ heard ! _ (λ asked. let here : d.at ≡ d.home.0 = d.placed ∙ ap (λ (k : ℕ). d.home.0 +ₚ k) asked.1 ∙ nearest d.home.0 in
     split ! $ move ! (1 ∷ []) $ split ! $ keep ! (0 ∷ []) $
     cells_had ! d (vals d) (λ b o at_b is fn.
     regoal ! (λ (p : Ptr). prop (WpFn 𝓤 𝓛.H 𝓣.C 𝓣.Λ code.function (words_val p n ∷ []) Post)) at_b refl $

@@ -35,7 +35,7 @@ abbrev vals : HostBytes → List Val
 vals d = words_val d.at d.len ∷ []
 
 abbrev whole_of : (d : HostBytes) (xs : List ℕ) → length xs ≡ d.len → Cells
-whole_of d xs long = record { at = d.at; len = d.len; home = d.at; from = 0; bytes = xs; lent = []; placed = sym (nearest d.at); counted = sym long; loans = refl; small = d.small }
+whole_of d xs long = record { at = d.at; len = d.len; home = (d.at, xs); from = 0; bytes = xs; lent = []; placed = sym (nearest d.at); counted = sym long; loans = refl; small = d.small }
 
 pub over_spec : {M : Type 1} → statement M
 over_spec 𝓤 𝓛 𝓜 𝓡 wired =
