@@ -58,6 +58,8 @@ RUNS = [
     ("--look --help", 2, b""),
     ("--look missing", 1, b""),
     ("--look .", 1, b""),
+    ("--look long", 1, b""),
+    ("--look /dev/zero", 1, b""),
     ("--look", 2, b""),
     ("--look ram --base x", 2, b""),
     ("--look ram --base $", 2, b""),
@@ -76,6 +78,9 @@ def main(program):
         for name, contents in files.items():
             with open(os.path.join(room, name), "wb") as it:
                 it.write(contents)
+        # a file with a hole, one byte longer than what is read
+        with open(os.path.join(room, "long"), "wb") as it:
+            it.truncate((1 << 30) + 1)
         for words, status, wanted in RUNS:
             done = subprocess.run([program, *words.split()], cwd=room, capture_output=True, check=False, stdin=subprocess.DEVNULL)
             shown = json.loads(done.stdout) if isinstance(wanted, dict) else done.stdout
@@ -83,7 +88,7 @@ def main(program):
             if done.returncode != status or wanted not in (None, shown) or not is_silent:
                 wrong += 1
                 print(f"macheap {words}: status {done.returncode}, {done.stdout}, {done.stderr}, and not {status}, {wanted}")
-        if sorted(os.listdir(room)) != sorted(files):
+        if sorted(os.listdir(room)) != sorted([*files, "long"]):
             wrong += 1
             print("a look has made a file")
     print(f"looks: {len(RUNS)} runs, {wrong} wrong")

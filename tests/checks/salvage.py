@@ -254,6 +254,8 @@ def spoiled(kind, file, choices):
                 yield f"{other!r} at {at}", file[:at] + other + file[at + 1 :]
         yield "no last colon", file.rstrip()[:-1]
         yield "no first colon", file.replace(b"\n:", b"\n", 1)
+        for other in (b"~", b".", b"\xe9"):
+            yield f"{other!r} for the first colon", file.replace(b"\n:", b"\n" + other, 1)
 
 
 def try_spoiled(program, path, kind, what, file, rows):

@@ -153,6 +153,18 @@ def mended(text):
     return bytes(text[at] if is_good(at) else min(DIGITS, key=DIGITS.get) for at in range(len(text)))
 
 
+def digits_in_spite(file):
+    """The text after the colon that begins it. Where no line begins with one before a digit, it begins with the first character after the line of
+    the comment, if that is a digit, and else after it: it stands where the colon should be."""
+    after = COMMENT.search(file).end()
+    colon = re.compile(rb"(?:(?<=[\r\n])|\A)[\t ]*:").search(file, after)
+    if colon and set(file[colon.end() :]) & set(DIGITS):
+        return file[colon.end() :]
+    line = re.compile(rb"[\r\n][\t\n\r ]*").search(file, after)
+    rest = file[line.end() :] if line else b""
+    return rest if rest and rest[0] in DIGITS else rest[1:]
+
+
 def text_parts(values):
     """Where the lengths in the header of what a text stands for say that they are."""
     if len(values) < (values[0] if values else 0) + 20:
@@ -170,8 +182,7 @@ def in_spite(file):
     elif mac_binary_version(file):
         parts = mac_binary_parts(file)
     else:
-        colon = re.compile(rb"(?:(?<=[\r\n])|\A)[\t ]*:").search(file, COMMENT.search(file).end())
-        file = decoded(mended(file[colon.end() :]), 0)[0] if colon else b""
+        file = decoded(mended(digits_in_spite(file)), 0)[0]
         parts = text_parts(file)
     there = [part and (part[1], file[part[0] : part[0] + part[1]]) for part in parts]
     return [part if part and part[1] else None for part in there]

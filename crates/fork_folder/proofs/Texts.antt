@@ -3,11 +3,11 @@ use Rattle.std.proofs.Common.{◌≡◌, ℕ, suc, ◌+◌, ◌<◌, ◌==◌, e
 use Rattle.std.specs.Prelude.{◌*◌, nat_lt, encode_utf8, option_map, string_bytes, IfSome}
 use Rattle.std.specs.List.{AllByRecursion, position_or_len}
 use Rattle.std.proofs.lemmas.Bool.{agree_below_at, eqb-true}
-use Rattle.std.proofs.lemmas.Grind.{same_number_lists}
+use Rattle.hex.proofs.HexLemmas.{decode_of-same}
 use Rattle.std.proofs.lemmas.Str.{encode_same, length-encode, len_utf8_bounds}
 use Rattle.fork_list.specs.declared.roman.TheConstants.{UPPER}
 use Rattle.fork_list.specs.Roman.{AreBytes, roman_char, roman_text}
-use Rattle.fork_folder.specs.Manifest.{AllSame, AllSay, IsHexOf, IsOfBytes, IsPair, IsSame, Says, SaysFork}
+use Rattle.fork_folder.specs.Manifest.{AllSame, AllSay, IsOfBytes, IsSame, Says, SaysFork}
 use Rattle.fork_folder.specs.Packed.{Listed}
 use Rattle.fork_folder.specs.declared.manifest.Manifest.{Manifest}
 use Rattle.fork_folder.specs.declared.manifest.Resource.{Resource}
@@ -52,15 +52,6 @@ read_again resource one other of of' says says' = record {
   file = says.file ∙ sym says'.file;
 }
 
--- two hexadecimal digits are one byte
-same_pair : (text : List ℕ) (at byte other : ℕ) → IsPair text at byte → IsPair text at other → byte ≡ other
-same_pair text at byte other is is' = is.value ∙ sym is'.value
-
-pub same_hex : (text bytes others : List ℕ) → IsHexOf text bytes → IsHexOf text others → bytes ≡ others
-same_hex text bytes others is is' =
-    let long : length bytes ≡ length others = omega (arith, is.0, is'.0) in
-    same_number_lists bytes others long (λ k within. same_pair text (2 * k) _ _ (is.1 k within) (is'.1 k (omega (arith, long, within))))
-
 all_same : (resources : List Resource) (ones others : List Listed) → AllByRecursion IsOfBytes ones → AllByRecursion IsOfBytes others
     → AllSay resources ones → AllSay resources others → AllSame ones others
 all_same [] [] [] of of' says says' = tt
@@ -76,7 +67,7 @@ pub fork_again : (manifest : Manifest) (extra extra' : List ℕ) (map map' : ℕ
     → AllByRecursion IsOfBytes ones → AllByRecursion IsOfBytes others → SaysFork manifest extra map ones → SaysFork manifest extra' map' others
     → (extra ≡ extra') × (map ≡ map') × AllSame ones others
 fork_again manifest extra extra' map map' ones others of of' says says' =
-    (same_hex (string_bytes manifest.extra) extra extra' says.extra says'.extra, says.map_attributes ∙ sym says'.map_attributes, all_same manifest.resources.items ones others of of' says.resources says'.resources)
+    (decode_of-same (string_bytes manifest.extra) extra extra' says.extra says'.extra, says.map_attributes ∙ sym says'.map_attributes, all_same manifest.resources.items ones others of of' says.resources says'.resources)
 
 -- one resource more, of which it says so
 pub say_more : (resources : List Resource) (ones : List Listed) (resource : Resource) (one : Listed) → AllSay resources ones → Says resource one → AllSay (resources ++ resource ∷ []) (ones ++ one ∷ [])

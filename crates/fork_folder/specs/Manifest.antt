@@ -1,21 +1,15 @@
 -- What is made of the texts and numbers of a manifest.
-use Rattle.std.specs.Prelude.{◌≡◌, ℕ, ◌+◌, ◌*◌, ◌<◌, List, [], ◌∷◌, length, slice_index, string_bytes, option_map, IfSome, ⊤}
-use Rattle.std.specs.Char.{digit_value}
+use Rattle.std.specs.Prelude.{◌≡◌, ℕ, List, [], ◌∷◌, Ok, string_bytes, option_map, IfSome, ⊤}
 use Rattle.std.specs.List.{AllByRecursion}
+use Rattle.hex.specs.Hex.{decode_of}
 use Rattle.fork_list.specs.Roman.{AreBytes, roman_text}
 use Rattle.fork_folder.specs.declared.manifest.Manifest.{Manifest}
 use Rattle.fork_folder.specs.declared.manifest.Resource.{Resource}
 use Rattle.fork_folder.specs.Packed.{Listed}
 
--- the two hexadecimal digits at a place of a text are this byte
-pub record IsPair (text : List ℕ) (at byte : ℕ) : Type 0 where
-  pub high : digit_value (slice_index text at) < 16
-  pub low : digit_value (slice_index text (at + 1)) < 16
-  pub value : byte ≡ 16 * digit_value (slice_index text at) + digit_value (slice_index text (at + 1))
-
 -- a text is these bytes, in hexadecimal digits
 abbrev pub IsHexOf : List ℕ → List ℕ → Type 0
-IsHexOf text bytes = (length text ≡ 2 * length bytes) × ((i : ℕ) → i < length bytes → IsPair text (2 * i) (slice_index bytes i))
+IsHexOf text bytes = decode_of text ≡ Ok bytes
 
 -- the manifest says of a resource what is listed of it: its type and its name are those that the texts show in MacRoman
 pub record Says (resource : Resource) (one : Listed) : Type 0 where

@@ -1,7 +1,8 @@
 //! What `resources.json` says.
 
-ghost use Rattle.std.specs.Prelude.{◌≡◌, IfErr, IfOk, IfSome, map, option_map, string_bytes};
-ghost use Rattle.std.specs.List.{AllByRecursion, list_any};
+ghost use Rattle.std.specs.Prelude.{◌≡◌, ◌↔◌, IfErr, IfOk, IfSome, IsSome, length, map, option_map, string_bytes};
+ghost use Rattle.std.specs.List.{AllByRecursion, AllPass, list_any};
+ghost use Rattle.hex.specs.Hex.{is_hex_digit};
 ghost use Rattle.fork_list.specs.Roman.{roman_text};
 ghost use Rattle.fork_folder.specs.Manifest.{IsHexOf, Says, SaysFork};
 ghost use Rattle.fork_folder.specs.Packed.{listed};
@@ -15,6 +16,7 @@ use crate::rows::{Entry, Flaw, PackFault};
 use bitflags::Flags;
 use fork_bytes::table::Row;
 use fork_list::{bytes_of, text_of};
+use hex::FromHex;
 use mac_base::name::Name;
 use mac_base::resource::{ResAttrs, ResType};
 use serde::{Deserialize, Serialize};
@@ -190,19 +192,10 @@ pub fn resource_of(alloc: Global, file: &File<'_>) -> Result<Resource, AllocErro
 
 /// The 240 bytes that as many pairs of hexadecimal digits are.
 fn extra_of(text: &str) -> Option<[u8; 240]>
-    ensures { IfSome result (IsHexOf text.now) }
+    ensures value { IfSome result (IsHexOf text.now) }
+    ensures found { IsSome result ↔ ((length text.now ≡ 480) × AllPass is_hex_digit text.now) }
 {
-    let digits = text.as_bytes();
-    if digits.len() != 480 {
-        return None;
-    }
-    let mut extra = [0; 240];
-    for i in 0..240 {
-        let high = char::from(digits[2 * i]).to_digit(16)?;
-        let low = char::from(digits[2 * i + 1]).to_digit(16)?;
-        extra[i] = (16 * high + low) as u8;
-    }
-    Some(extra)
+    <[u8; 240] as FromHex>::from_hex(text).ok()
 }
 
 /// What a text says that `unpack` wrote. An error says what isn't so, and in which file's entry. Each file is in a

@@ -116,12 +116,14 @@ fn write_part<W: fmt::Write>(
     )
 }
 
-/// What is said of a resource: what of it ends outside, how many bytes that should be, how many are left, and of what.
+/// What is said of a resource: what of it is too long, how many bytes that should be, and how many there can be, between
+/// the words before that number and those after it.
 fn write_row<W: fmt::Write>(
     f: &mut fmt::Formatter<W>,
     row: &BadRow,
     part: &str,
-    whole: &str,
+    before: &str,
+    after: &str,
 ) -> fmt::Result {
     let kind = row.kind.bytes();
     let kind = Quoted::single(Letters::Raw, &kind);
@@ -138,7 +140,7 @@ fn write_row<W: fmt::Write>(
     } = gap;
     write!(
         f,
-        "{kind} {id}: {part} {wanted}, and {left} bytes are left in the {whole}\n  at ${place:06X}, reached from the reference at ${reference:06X}"
+        "{kind} {id}: {part} {wanted}, and {before}{left} {after}\n  at ${place:06X}, reached from the reference at ${reference:06X}"
     )
 }
 
@@ -160,33 +162,23 @@ impl fmt::Display for Fault {
             Fault::SameType(same) => write_same(f, same),
             Fault::References(list) => write_list(f, list),
             Fault::RowCount(excess) => write_excess(f, excess),
-            Fault::Name(row) => write_row(f, row, "its name with its byte of length has", "map"),
-            Fault::Length(row) => write_row(f, row, "the bytes of its length are", "data"),
-            Fault::Bytes(row) => write_row(f, row, "its length is", "data"),
-            Fault::ByteCount(row) => write_sum(f, row),
+            Fault::Name(row) => {
+                let part = "its name with its byte of length has";
+                write_row(f, row, part, "", "bytes are left in the map")
+            }
+            Fault::Length(row) => {
+                let part = "the bytes of its length are";
+                write_row(f, row, part, "", "bytes are left in the data")
+            }
+            Fault::Bytes(row) => {
+                write_row(f, row, "its length is", "", "bytes are left in the data")
+            }
+            Fault::ByteCount(row) => {
+                let part = "the bytes of the resources up to it are";
+                write_row(f, row, part, "at most ", "are read of such data")
+            }
         }
     }
-}
-
-/// What is said of the resource at which all have too many bytes.
-fn write_sum<W: fmt::Write>(f: &mut fmt::Formatter<W>, row: &BadRow) -> fmt::Result {
-    let kind = row.kind.bytes();
-    let kind = Quoted::single(Letters::Raw, &kind);
-    let BadRow {
-        id,
-        reference,
-        gap,
-        ..
-    } = *row;
-    let Gap {
-        place,
-        wanted,
-        left,
-    } = gap;
-    write!(
-        f,
-        "{kind} {id}: the bytes of the resources up to it are {wanted}, and at most {left} are read of such data\n  at ${place:06X}, reached from the reference at ${reference:06X}"
-    )
 }
 
 /// What is said of a type that is twice.

@@ -1,14 +1,14 @@
 //! What `resources.json` says: all of a fork that isn't in the files of its resources.
 
-ghost use Rattle.std.specs.Prelude.{◌≡◌, IfOk, map};
-ghost use Rattle.fork_folder.specs.Manifest.{AllSay};
+ghost use Rattle.std.specs.Prelude.{IfOk, map};
+ghost use Rattle.fork_folder.specs.Manifest.{AllSay, SaysFork};
 ghost use Rattle.fork_folder.specs.PackedAgain.{entry_of};
 ghost use Rattle.fork_folder.specs.Unpacked.{file_row, unpacked_file};
 
 use fork_bytes::table::Table;
 use fork_folder::files::File;
 use fork_folder::manifest::{Manifest, Resource, resource_of};
-use fork_list::{hexadecimal_digit, text_of};
+use fork_list::text_of;
 use mac_files::OldFile;
 use mac_files::contents::{Dates, FinderInfo};
 use std::alloc::{AllocError, Global};
@@ -29,16 +29,6 @@ fn origin_of(
         None
     };
     (container, view.finder, view.dates)
-}
-
-/// Bytes in hexadecimal digits.
-fn hex_of(alloc: Global, bytes: &[u8]) -> Result<String, AllocError> {
-    let mut text = String::new(alloc);
-    for byte in bytes {
-        text.push(hexadecimal_digit(*byte / 16))?;
-        text.push(hexadecimal_digit(*byte % 16))?;
-    }
-    Ok(text)
 }
 
 /// Four bytes as a text, if they are there.
@@ -67,8 +57,7 @@ pub fn manifest_of(
     table: &Table<'_>,
     files: &[File<'_>],
 ) -> Result<Manifest, AllocError>
-    ensures map { IfOk result (λ manifest. manifest.map_attributes ≡ table.now.map_attributes) }
-    ensures resources { IfOk result (λ manifest. AllSay manifest.resources.items (map (λ file. entry_of (file_row file) (unpacked_file file)) files.now)) }
+    ensures { IfOk result (λ manifest. SaysFork manifest table.now.extra table.now.map_attributes (map (λ file. entry_of (file_row file) (unpacked_file file)) files.now)) }
 {
     let (container, finder, dates) = origin_of(alloc, file);
     Ok(Manifest {
@@ -81,7 +70,7 @@ pub fn manifest_of(
         flags: finder.map(|finder| finder.flags),
         created: dates.map(|dates| dates.created),
         modified: dates.map(|dates| dates.modified),
-        extra: hex_of(alloc, &table.extra)?,
+        extra: hex::encode_upper(alloc, &table.extra)?,
         map_attributes: table.map_attributes,
         resources: resources_of(alloc, files)?,
     })

@@ -11,5 +11,5 @@ mod read;
 mod runs;
 
 pub use digits::digit_value;
-pub use find::{find_colon, is_bin_hex, is_skipped};
+pub use find::{ends_line, find_colon, find_comment, is_bin_hex, is_skipped};
 pub use read::{most_of, read_bin_hex, read_bin_hex_within};

@@ -9,13 +9,13 @@ use Rattle.mac_files.specs.declared.kind.FileKind.TheVariants.{Archive, BinHex, 
 use Rattle.mac_files.specs.declared.old_file.FileFault.{FileFault}
 use Rattle.mac_files.specs.declared.old_file.FileFault.TheVariants.{Container, HostFull, Text}
 use Rattle.mac_files.specs.declared.old_file.OldFile.{OldFile}
-use Rattle.mac_files.specs.BinHex.{colon_of, decoded_from, most_of, values_of}
+use Rattle.mac_files.specs.BinHex.{decoded_from, most_of, values_of}
 use Rattle.mac_files.specs.Kinds.{kind_of}
 use Rattle.mac_files.specs.OldFiles.{IsUnopened, Opens, Said, old_file, read_as}
 use Rattle.mac_salvage.specs.declared.place.Places.{Places}
 use Rattle.mac_salvage.specs.InSpite.{Forks, IsShut, container_fault, forks_at, forks_by_fault, forks_in_spite, forks_left}
 use Rattle.mac_salvage.specs.Places.{places_of, text_places}
-use Rattle.mac_salvage.specs.Texts.{bytes_after, bytes_left, is_shut, mended}
+use Rattle.mac_salvage.specs.Texts.{bytes_from, bytes_left, is_shut, mended, start_of}
 use Rattle.mac_salvage.proofs.Mending.{rest_of}
 
 -- The faults.
@@ -72,28 +72,28 @@ shut_for file (Text why) is = is
 
 -- How many bytes a text stands for.
 
-pub none_shut : (text : List ℕ) → colon_of text ≡ None → is_shut text ≡ true
+pub none_shut : (text : List ℕ) → start_of text ≡ None → is_shut text ≡ true
 none_shut text none = rw none refl
 
-counted : (text : List ℕ) (colon : ℕ) → colon_of text ≡ Some colon → length (bytes_left text) ≡ length (decoded_from 0 (mended (drop (colon + 1) text))).values
-counted text colon is = rw is (length-map (decoded_from 0 (mended (drop (colon + 1) text))).values (λ (p : Placed). p.value))
+counted : (text : List ℕ) (start : ℕ) → start_of text ≡ Some start → length (bytes_left text) ≡ length (decoded_from 0 (mended (drop start text))).values
+counted text start is = rw is (length-map (decoded_from 0 (mended (drop start text))).values (λ (p : Placed). p.value))
 
-pub over_shut : (text : List ℕ) (colon count : ℕ) → colon_of text ≡ Some colon → count ≡ length (decoded_from 0 (mended (drop (colon + 1) text))).values
+pub over_shut : (text : List ℕ) (start count : ℕ) → start_of text ≡ Some start → count ≡ length (decoded_from 0 (mended (drop start text))).values
     → most_of (length text) < count → is_shut text ≡ true
-over_shut text colon count is counts over =
-    or_right _ _ (lt-ltb (most_of (length text)) (length (bytes_left text)) (subst (λ (n : ℕ). most_of (length text) < n) (counts ∙ sym (counted text colon is)) over))
+over_shut text start count is counts over =
+    or_right _ _ (lt-ltb (most_of (length text)) (length (bytes_left text)) (subst (λ (n : ℕ). most_of (length text) < n) (counts ∙ sym (counted text start is)) over))
 
-pub under_open : (text : List ℕ) (colon count : ℕ) → colon_of text ≡ Some colon → count ≡ length (decoded_from 0 (mended (drop (colon + 1) text))).values
+pub under_open : (text : List ℕ) (start count : ℕ) → start_of text ≡ Some start → count ≡ length (decoded_from 0 (mended (drop start text))).values
     → count ≤ most_of (length text) → is_shut text ≡ false
-under_open text colon count is counts under =
-    or_from _ _ (rw is refl) (le-ltb (most_of (length text)) (length (bytes_left text)) (subst (λ (n : ℕ). n ≤ most_of (length text)) (counts ∙ sym (counted text colon is)) under))
+under_open text start count is counts under =
+    or_from _ _ (rw is refl) (le-ltb (most_of (length text)) (length (bytes_left text)) (subst (λ (n : ℕ). n ≤ most_of (length text)) (counts ∙ sym (counted text start is)) under))
 
--- what is read of a text, where the colon is found and it isn't too long
-pub read_left : (text digits bytes : List ℕ) (colon count : ℕ) → Some colon ≡ colon_of text
-    → digits ≡ mended (take (length text - (colon + 1)) (drop (colon + 1) text)) → count ≡ length (decoded_from 0 digits).values
+-- what is read of a text, where it begins somewhere and isn't too long
+pub read_left : (text digits bytes : List ℕ) (start count : ℕ) → Some start ≡ start_of text
+    → digits ≡ mended (take (length text - start) (drop start text)) → count ≡ length (decoded_from 0 digits).values
     → count ≤ most_of (length text) → bytes ≡ values_of (decoded_from 0 digits) → (is_shut text ≡ false) × (bytes ≡ bytes_left text)
-read_left text digits bytes colon count is mends counts under reads =
-    let all = mends ∙ ap mended (rest_of text (colon + 1)) in (
-      under_open text colon count (sym is) (counts ∙ ap (λ (d : List ℕ). length (decoded_from 0 d).values) all) under,
-      reads ∙ ap (λ (d : List ℕ). values_of (decoded_from 0 d)) all ∙ ap (λ (found : Option ℕ). bytes_after found text) is,
+read_left text digits bytes start count is mends counts under reads =
+    let all = mends ∙ ap mended (rest_of text start) in (
+      under_open text start count (sym is) (counts ∙ ap (λ (d : List ℕ). length (decoded_from 0 d).values) all) under,
+      reads ∙ ap (λ (d : List ℕ). values_of (decoded_from 0 d)) all ∙ ap (λ (found : Option ℕ). bytes_from found text) is,
     )

@@ -93,7 +93,7 @@ IsShut file HostFull = ⊤
 IsShut file fault = is_shut file ≡ true
 
 -- What opening gives: the kind of the file, its fault if it has one, and its forks. Nothing of a text comes where the
--- host has no memory, or no line begins it, or it is too long; then its first fault does.
+-- host has no memory, or nothing begins it, or it is too long; then its first fault does.
 abbrev pub OpensInSpite : List ℕ → Result FileLeft FileFault → Type 0
 OpensInSpite file (Ok left) = (kind_by left ≡ kind_of file) × (fault_by left ≡ container_fault file) × (forks_by left ≡ forks_in_spite file)
 OpensInSpite file (Err fault) = IsUnopened (kind_of file) file fault × IsShut file fault

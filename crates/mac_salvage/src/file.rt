@@ -106,8 +106,8 @@ impl FileLeft<'_> {
 
 /// The forks of a file: all their bytes where its container has no fault, and else those that are there, at the places
 /// that its header or its list says. In a BinHex text a wrong character is read as a digit, and the others keep their
-/// places. An error comes only of such a text: where no line begins with its colon, it stands for more bytes than are
-/// read of it, or the host has no memory.
+/// places. An error comes only of such a text: where nothing comes after the line that each tool writes, it stands for
+/// more bytes than are read of it, or the host has no memory.
 #[tactic(auto, using(crate::proofs::Opening::parts_fault, crate::proofs::Opening::parts_forks))]
 pub fn open_in_spite<'a>(alloc: Global, file: &'a [u8]) -> Result<FileLeft<'a>, FileFault>
     ensures { OpensInSpite file.now result }

@@ -6,7 +6,7 @@ use clap::{Arg, ArgAction, Command};
 use mac_base::block::{Block, Entry, Flags, HeadKind, Kind};
 use std::alloc::{AllocError, Global};
 use std::convert::AsStr;
-use std::fs;
+use std::fs::{self, File};
 use std::io::{self, BufWriter, Read, Write};
 use thiserror::Error;
 use zone_look::{Dump, Found, look};
@@ -21,8 +21,8 @@ const BAD_WORDS: u8 = 2;
 
 const WRONG: u8 = 3;
 
-/// The most bytes of a file that are read: those that addresses of 32 bits name.
-const MOST: u64 = 0x1_0000_0000;
+/// The most bytes of a file that are read, 1 GB: no Macintosh with these zones had as many.
+const MOST: u64 = 1 << 30;
 
 /// What is to be looked at, and how it is shown.
 #[derive(Drop)]
@@ -52,6 +52,12 @@ enum NotLooked {
     /// The file is missing, or can't be read.
     #[error("{0}")]
     Unread(io::Error),
+    /// The file is a pipe, a device or the like.
+    #[error("it isn't a plain file")]
+    NotPlain,
+    /// The file is longer than what is read.
+    #[error("it has more than 1073741824 bytes")]
+    TooLong,
     /// The host has no memory.
     #[error("error: the host has no memory")]
     HostFull,
@@ -180,12 +186,27 @@ fn show<W: Write + Drop>(
     Ok(if found.fault.is_some() { WRONG } else { SOUND })
 }
 
+/// All bytes of a plain file that has no more than are read.
+fn read_file(alloc: Global, file: &File) -> Result<Vec<u8>, NotLooked> {
+    let found = file.metadata()?;
+    if !found.is_file() {
+        return Err(NotLooked::NotPlain);
+    }
+    if found.len() > MOST {
+        return Err(NotLooked::TooLong);
+    }
+    let mut bytes: Vec<u8> = Vec::with_capacity(alloc, found.len() as usize + 1)?;
+    file.take(MOST + 1).read_to_end(&mut bytes)?;
+    if bytes.len() as u64 > MOST {
+        return Err(NotLooked::TooLong);
+    }
+    Ok(bytes)
+}
+
 /// Looks at the file that was asked for.
 fn look_at(rt: &HostRuntime, request: &Request<'_>) -> Result<u8, NotLooked> {
     let alloc = rt.alloc();
-    let mut bytes: Vec<u8> = Vec::new(alloc);
-    let file = fs::open(rt, request.path)?;
-    file.take(MOST).read_to_end(&mut bytes)?;
+    let bytes = read_file(alloc, &fs::open(rt, request.path)?)?;
     show(alloc, &bytes, request, rt.stdout())
 }
 
@@ -222,6 +243,10 @@ pub fn looked<S: AsStr>(rt: &HostRuntime, words: &[S]) -> u8 {
             let _ = eprintln!(rt;
                 "error: {path:?} can't be read, or what is found can't be written: {error}"
             );
+            FAILED
+        }
+        Err(error @ (NotLooked::NotPlain | NotLooked::TooLong)) => {
+            let _ = eprintln!(rt; "error: {:?} isn't looked at: {error}", request.path);
             FAILED
         }
         Err(error) => refuse(rt, error),

@@ -1,7 +1,7 @@
 //! Where a BinHex text begins.
 
 ghost use Rattle.std.specs.Prelude.{◌≡◌, ◌<◌, ◌≤◌, ◌+◌, length, drop, true, IfSome};
-ghost use Rattle.mac_files.specs.BinHex.{begins_after, is_bin_hex, is_blank, is_line_end, is_skipped, line_from, colon_of};
+ghost use Rattle.mac_files.specs.BinHex.{begins_after, comment_of, is_bin_hex, is_blank, is_line_end, is_skipped, line_from, colon_of};
 
 use crate::container::has_fork_parts;
 
@@ -9,7 +9,7 @@ use crate::container::has_fork_parts;
 const COMMENT: &[u8] = b"(This file must be converted";
 
 /// Whether a character ends a line.
-fn ends_line(character: u8) -> bool
+pub fn ends_line(character: u8) -> bool
     ensures { result ≡ is_line_end character }
 {
     character == b'\r' || character == b'\n'
@@ -52,12 +52,20 @@ fn find_line(text: &[u8], from: usize, mark: &[u8]) -> Option<usize>
     None
 }
 
+/// Where the line begins that each tool writes before the text.
+pub fn find_comment(text: &[u8]) -> Option<usize>
+    ensures place { result ≡ comment_of text.now }
+    ensures inside { IfSome result (λ at. at < length text.now) }
+{
+    find_line(text, 0, COMMENT)
+}
+
 /// Whether a text is BinHex: a line begins with the comment that each tool writes before it. A file with a fork's
 /// header isn't a text.
 pub fn is_bin_hex(text: &[u8]) -> bool
     ensures { result ≡ is_bin_hex text.now }
 {
-    !has_fork_parts(text.len(), text) && find_line(text, 0, COMMENT).is_some()
+    !has_fork_parts(text.len(), text) && find_comment(text).is_some()
 }
 
 /// Where the colon is that begins the text: the first that begins a line, after the comment if there is one.
@@ -65,6 +73,6 @@ pub fn find_colon(text: &[u8]) -> Option<usize>
     ensures place { result ≡ colon_of text.now }
     ensures inside { IfSome result (λ at. at < length text.now) }
 {
-    let comment = find_line(text, 0, COMMENT).unwrap_or(0);
+    let comment = find_comment(text).unwrap_or(0);
     find_line(text, comment, b":")
 }

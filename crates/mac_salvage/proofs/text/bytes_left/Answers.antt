@@ -6,7 +6,7 @@ use Rattle.mac_salvage.proofs.text.bytes_left.Goals as goal
 pub returns-clause-bytes : goal.returns-clause-bytes
 returns-clause-bytes c =
     let same = c.in_ok-bytes.ensures.same_text in
-    read_left c.args.text.now c.deref.result.now c.in_ok-bytes.field-0.bytes.items c.in-Some.colon c.in-Some-decoded_length.count c.in-Some.ensures.place
+    read_left c.args.text.now c.deref.result.now c.in_ok-bytes.field-0.bytes.items c.in-Some.start c.in-Some-decoded_length.count c.in-Some.ensures.place
     (c.deref.ensures.value ∙ c.in_ok-mended.ensures) c.in-Some-decoded_length.ensures.some
     (subst (λ (n : ℕ). c.in-Some-decoded_length.count ≤ n) c.most_of.ensures c.if-most_of-count.false)
     (
