@@ -1,7 +1,9 @@
 -- What the manifest says of files, one after the other.
-use Rattle.std.proofs.Common.{◌≡◌, ◌∙◌, ℕ, ◌+◌, ◌<◌, List, [], ◌∷◌, ◌++◌, length, map, take, get_or, sym, ap, subst}
+use Rattle.std.proofs.Common.{◌≡◌, ◌∙◌, ℕ, ◌+◌, ◌<◌, List, [], ◌∷◌, ◌++◌, Fits, Result, Ok, Err, IfOk, arith, w8, length, map, slice_index_or, take, get_or, sym, ap, subst}
+use Rattle.hex.specs.Hex.{IsBytes, decode_of, encode_upper}
+use Rattle.hex.proofs.HexLemmas.{decode_of-encode_upper}
 use Rattle.std.proofs.lemmas.List.{map_push, take_more}
-use Rattle.fork_folder.specs.Manifest.{AllSay, Says}
+use Rattle.fork_folder.specs.Manifest.{AllSay, IsHexOf, Says}
 use Rattle.fork_folder.specs.Packed.{Listed}
 use Rattle.fork_folder.specs.PackedAgain.{entry_of}
 use Rattle.fork_folder.specs.Unpacked.{file_row, unpacked_file}
@@ -19,3 +21,11 @@ said_at files at other resources resource within are one =
     let P : List Listed → Type 0 = λ all. AllSay (resources ++ resource ∷ []) all in
     let same = ap (λ (some : List File). map listed some) (take_more files at other within) ∙ map_push listed (take at files) (get_or files at other) in
     subst P (sym same) (say_more resources (map listed (take at files)) resource (listed (get_or files at other)) are one)
+
+-- the digits of bytes are read as these bytes
+pub digits_again : {T E : Type 0} (text : T → List ℕ) (bytes : List ℕ) → ((i : ℕ) → Fits w8 (slice_index_or bytes i 0)) → (result : Result T E)
+    → IfOk result (λ t. text t ≡ encode_upper bytes) → IfOk result (λ t. IsHexOf (text t) bytes)
+digits_again text bytes are (Err error) is = tt
+digits_again text bytes are (Ok t) is =
+    let fit : IsBytes bytes = λ i. let f = are i in omega arith in
+    ap decode_of is ∙ decode_of-encode_upper bytes fit

@@ -1,7 +1,7 @@
 //! What `resources.json` says: all of a fork that isn't in the files of its resources.
 
-ghost use Rattle.std.specs.Prelude.{IfOk, map};
-ghost use Rattle.fork_folder.specs.Manifest.{AllSay, SaysFork};
+ghost use Rattle.std.specs.Prelude.{IfOk, map, string_bytes};
+ghost use Rattle.fork_folder.specs.Manifest.{AllSay, IsHexOf, SaysFork};
 ghost use Rattle.fork_folder.specs.PackedAgain.{entry_of};
 ghost use Rattle.fork_folder.specs.Unpacked.{file_row, unpacked_file};
 
@@ -29,6 +29,13 @@ fn origin_of(
         None
     };
     (container, view.finder, view.dates)
+}
+
+/// Bytes in hexadecimal digits.
+fn hex_of(alloc: Global, bytes: &[u8]) -> Result<String, AllocError>
+    ensures { IfOk result (λ text. IsHexOf (string_bytes text) bytes.now) }
+{
+    hex::encode_upper(alloc, bytes)
 }
 
 /// Four bytes as a text, if they are there.
@@ -70,7 +77,7 @@ pub fn manifest_of(
         flags: finder.map(|finder| finder.flags),
         created: dates.map(|dates| dates.created),
         modified: dates.map(|dates| dates.modified),
-        extra: hex::encode_upper(alloc, &table.extra)?,
+        extra: hex_of(alloc, &table.extra)?,
         map_attributes: table.map_attributes,
         resources: resources_of(alloc, files)?,
     })
