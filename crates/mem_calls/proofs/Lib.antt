@@ -16,3 +16,7 @@ pub mod Telling
 pub mod Trials
 pub mod Trying
 pub mod FlagsTaken
+pub mod PurgeSteps
+pub mod NoPurges
+pub mod Asked
+pub mod FewerFull

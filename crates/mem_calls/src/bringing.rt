@@ -30,7 +30,7 @@ use mac_base::size::MAX_SIZE;
 use zone_heap::Zone;
 
 /// Tests how many bytes a call brings: paramErr where they are over 8,388,608.
-fn test_count(bytes: &[u8]) -> Result<(), OsErr>
+pub(crate) fn test_count(bytes: &[u8]) -> Result<(), OsErr>
     ensures size { TestsSize (length bytes.now) result }
     ensures few { OnOk result (length bytes.now ≤ 0x80_0000) }
 {
@@ -42,7 +42,7 @@ fn test_count(bytes: &[u8]) -> Result<(), OsErr>
 
 /// Tests the operands of a call that brings bytes for a handle's block: nilHandleErr where the handle is 0 or empty,
 /// memWZErr where it isn't live, memLockedErr where it is lent, paramErr where the bytes are over 8,388,608.
-fn test_handle_for(zone: &Zone, handle: Handle, bytes: &[u8]) -> Result<(), OsErr>
+pub(crate) fn test_handle_for(zone: &Zone, handle: Handle, bytes: &[u8]) -> Result<(), OsErr>
     ensures tests { Tests zone.now (IsHandle handle ∷ NotEmpty handle ∷ NotLent handle ∷ IsSize (length bytes.now) ∷ []) result }
     ensures few { OnOk result (length bytes.now ≤ 0x80_0000) }
 {

@@ -159,7 +159,7 @@ fn run<G: GrowZone>(
 }
 
 /// Whether a request is for a new handle, and no slot is free.
-fn lacks_slot(zone: &Zone, request: &Request) -> bool
+pub(crate) fn lacks_slot(zone: &Zone, request: &Request) -> bool
     ensures { result ≡ lacks_slot request.now zone.now.heap }
 {
     matches!(request, Request::NewBlock(_) | Request::NewEmpty) && !zone.linked().has_slot()

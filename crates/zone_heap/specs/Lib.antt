@@ -8,3 +8,4 @@ pub mod Room
 pub mod Resized
 pub mod Squeezed
 pub mod Purge
+pub mod NextPurge

@@ -10,6 +10,7 @@ ghost use Rattle.mac_base.specs.ZoneMap.{largest_free};
 ghost use Rattle.mac_base.specs.ZoneState.{with_heap};
 ghost use Rattle.linked_zone.specs.Loans.{KeepsLoans};
 ghost use Rattle.zone_heap.specs.Attempts.{CanAsk, SoundZone};
+ghost use Rattle.zone_heap.specs.NextPurge.{before_purge, next_of_all, next_to};
 ghost use Rattle.zone_heap.specs.Purge.{is_protected, BlocksAt, unprotected};
 
 use crate::fitting::fits;
@@ -71,6 +72,44 @@ impl Zone {
         while let Some(handle) = next_in_zone(&self.pointers, &[]) {
             empty(&mut self.pointers, handle);
         }
+    }
+
+    /// The handle that `purge_for` would purge first for a request: none where the request fits, or no handle may be
+    /// purged for it. Where it doesn't fit the zone grows to its limit first, and nothing else changes (Inside
+    /// Macintosh: Memory, "Freeing Memory").
+    pub fn next_purge(&mut self, request: Request, protected: &[u32]) -> Option<Handle>
+        requires ready { CanAsk self.old request }
+        ensures zone { self.new ≡ with_heap (before_purge self.old.shape protected.now request self.old.heap).heap self.old }
+        ensures next { result ≡ (before_purge self.old.shape protected.now request self.old.heap).next }
+        ensures loans { KeepsLoans self.old self.new }
+    {
+        if fits(&mut self.pointers, &request) {
+            return None;
+        }
+        self.extend();
+        if fits(&mut self.pointers, &request) {
+            return None;
+        }
+        next_for(&self.pointers, &request, protected)
+    }
+
+    /// The handle that `purge_to` would purge first: none where so many bytes are free in one block, or no handle may
+    /// be purged (Inside Macintosh: Memory, "PurgeMem").
+    pub fn next_purge_to(&mut self, needed: u32) -> Option<Handle>
+        ensures zone { self.new ≡ self.old }
+        ensures next { result ≡ next_to needed self.old.heap }
+    {
+        if needed <= self.pointers.largest_free() {
+            return None;
+        }
+        next_in_zone(&self.pointers, &[])
+    }
+
+    /// The handle that `purge_all` would purge first, if any may be purged (Inside Macintosh: Memory, "MaxMem").
+    pub fn next_purge_of_all(&self) -> Option<Handle>
+        ensures { result ≡ next_of_all self.now.heap }
+    {
+        next_in_zone(&self.pointers, &[])
     }
 }
 
