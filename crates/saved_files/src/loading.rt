@@ -37,7 +37,8 @@ struct Head<'a> {
     numbers: &'a [u8],
 }
 
-/// Files that were saved: the open ones, the stores of all, in the order of numbers, and whether calls load what they get.
+/// Files that were saved: the open ones, the stores of all in the order of numbers, and whether calls load what they
+/// get.
 #[derive(Drop)]
 pub struct SavedFiles {
     pub chain: Chain<Place>,
@@ -190,8 +191,8 @@ fn files_in(alloc: Global, bytes: &[u8]) -> Result<SavedFiles, SaveFault>
     })
 }
 
-/// The files of which these bytes were saved over a zone, as they were. The fault is NotSound exactly where no files that
-/// can be saved over it are saved as these bytes.
+/// The files of which these bytes were saved over a zone, as they were. The fault is NotSound exactly where no files
+/// that can be saved over it are saved as these bytes.
 pub fn load(alloc: Global, zone: &LinkedZone, bytes: &[u8]) -> Result<SavedFiles, SaveFault>
     ensures saved { IfOk result (λ files. IsSavedAs zone.now.heap.table (saved_in files) bytes.now) }
     ensures same { IfOk result (λ files. (s : Saved) → IsSavedAs zone.now.heap.table s bytes.now → saved_in files ≡ s) }

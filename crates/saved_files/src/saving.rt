@@ -1,4 +1,19 @@
-//! Files are saved.
+//! Files are saved. The bytes are these, and a number has its highest byte first:
+//!
+//! | Bytes | What |
+//! |---|---|
+//! | 8 | how many bytes the first block has: 7, and one for each open file |
+//! | 4 | `MRst` |
+//! | 1 | the version of the format: 1 |
+//! | 1 | 1 if calls load what they get, else 0 |
+//! | 1 | the number of the current file, or 0 |
+//! | 1 each | the numbers of the open files, in the order of opening |
+//! | 8, and so many | the fork of file 1 after its length, then that of file 2, and so on to 255, open or not |
+//! | 8, and so many | for each open file, in the order of opening: its rows as a fork, after its length |
+//!
+//! In such a fork each resource has the type, the id, the name and the attributes of a row, resChanged among them. Its
+//! bytes say where those of the row begin in the file's own fork (4), how many there are (4), and which handle the row
+//! has (4), if it has one. The 240 extra bytes and the map's attributes are the file's.
 
 ghost use Rattle.std.specs.Prelude.{◌≡◌, ◌++◌, length, map, unwrap_or, IfOk, IsErrOf, OnOk};
 ghost use Rattle.std.specs.List.{AllByRecursion, flat_map};
@@ -72,8 +87,9 @@ fn push_files(
     Ok(())
 }
 
-/// The bytes of open files on these stores, over a zone. The fault is NotSound exactly where they can't be saved over it:
-/// the rows of a file fit no fork, or a handle of a row isn't live, or another row has it.
+/// The bytes of open files on these stores, over a zone. The fault is NotSound exactly where they can't be saved over
+/// it: the rows of a file fit no fork, or a handle of a row isn't live, or another row has it, or files are open and none
+/// is the current one.
 pub fn save(
     alloc: Global,
     zone: &LinkedZone,
