@@ -13,6 +13,7 @@ mod placing;
 mod queries;
 mod reading;
 mod replacing;
+mod saving;
 mod tables;
 mod updating;
 

@@ -1,0 +1,4 @@
+pub mod Told
+pub mod Faults
+pub mod Images
+pub mod Restored

@@ -1,0 +1,3 @@
+pub mod Infos
+pub mod Images
+pub mod Reading

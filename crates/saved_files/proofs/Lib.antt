@@ -1,0 +1,6 @@
+pub mod Files
+pub mod Standing
+pub mod Chains
+pub mod Faults
+pub mod Turns
+pub mod Said

@@ -1,0 +1,10 @@
+//! Resource files as bytes, so that they can be made again of these over the same zone.
+#![tactic(auto)]
+
+mod blocks;
+mod loading;
+mod saving;
+mod sound;
+
+pub use loading::{SavedFiles, load};
+pub use saving::save;
