@@ -23,6 +23,8 @@ const SYNCED: u64 = 4;
 #[derive(Drop)]
 pub struct HostFile {
     file: File,
+    /// It was synced since it was opened, before anything was noted of it. Only clauses read it.
+    was_synced: bool,
     /// A sync of `settle` has failed.
     is_spent: bool,
     /// Which of the files it is that share a record. Only clauses read it.
@@ -30,17 +32,26 @@ pub struct HostFile {
 }
 
 impl HostFile {
-    /// A file that is open. No sync of `settle` has failed.
+    /// A file that is open, and wasn't synced since. No sync of `settle` has failed.
     pub fn new(file: File) -> HostFile
         ensures file { result.file ≡ file }
+        ensures unsynced { result.was_synced ≡ false }
         ensures unspent { result.is_spent ≡ false }
         ensures which { result.which ≡ 0 }
     {
         HostFile {
             file,
+            was_synced: false,
             is_spent: false,
             which: 0,
         }
+    }
+
+    /// The same file, and whether it was synced since it was opened.
+    pub fn having_synced(self, was_synced: bool) -> HostFile
+        ensures { result ≡ record self { was_synced = was_synced } }
+    {
+        HostFile { was_synced, ..self }
     }
 
     /// The same file, with a number of its own among those that share a record.
@@ -68,12 +79,7 @@ impl HostFile {
     }
 
     /// Fills the buffer with the bytes at an offset.
-    pub fn read_at(
-        &self,
-        at: u64,
-        buffer: &mut [u8],
-        log: &mut FileCalls,
-    ) -> Result<(), DiskFault>
+    pub fn read_at(&self, at: u64, buffer: &mut [u8], log: &mut FileCalls) -> Result<(), DiskFault>
         ensures long { length buffer.new ≡ length buffer.old }
         ensures noted { log.new.events ≡ read_event self.now.which at buffer.new result ∷ log.old.events }
     {
