@@ -126,6 +126,7 @@ impl HostFile {
         ensures still { OnOk result (self.new.is_spent ≡ false) }
         ensures spent { OnErr result (self.new.is_spent ≡ true) }
         ensures which { self.new.which ≡ self.old.which }
+        ensures synced { self.new.was_synced ≡ self.old.was_synced }
         ensures noted { log.new.events ≡ sync_event self.old.which result ∷ log.old.events }
     {
         if self.is_spent {
