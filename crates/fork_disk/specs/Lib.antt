@@ -4,6 +4,7 @@ pub mod Calls
 pub mod Crash
 pub mod Faults
 pub mod Record
+pub mod Files
 pub mod OnDisk
 pub mod OnStore
 pub mod Stores

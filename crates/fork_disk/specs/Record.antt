@@ -1,5 +1,5 @@
 -- The calls on a file with their answers, and which answers an honest file gives.
-use Rattle.std.specs.Prelude.{◌≡◌, ⊤, ℕ, zero, suc, ◌==◌, Bool, true, false, List, [], ◌∷◌, length, take, slice_index, IsTrue, Result, Ok, Err}
+use Rattle.std.specs.Prelude.{◌≡◌, ⊤, ℕ, zero, suc, ◌==◌, Bool, true, false, not, count_by, List, [], ◌∷◌, length, take, slice_index, IsTrue, Result, Ok, Err}
 use Rattle.fork_disk.specs.Disk.{bytes_at, put_at, Torn, CutShort}
 
 -- A call with its answer, as it is noted: which call, an offset or a length, 1 for success, and which file it was; and
@@ -39,6 +39,10 @@ cut_event which len result = (3 ∷ len ∷ done result ∷ which ∷ [], [])
 
 abbrev pub sync_event : {T E : Type 0} → ℕ → Result T E → Event
 sync_event which result = (4 ∷ 0 ∷ done result ∷ which ∷ [], [])
+
+-- how many of these calls failed
+abbrev pub failed_calls : List Event → ℕ
+failed_calls calls = count_by (λ e. not (is_done e)) calls
 
 -- The answer of a call fits a file that held the old bytes before it and holds the new ones after it. A call that
 -- failed says nothing of the bytes; a write or a cut that failed may have been done in part.

@@ -6,7 +6,7 @@ ghost use Rattle.fork_disk.specs.OnDisk.{MeasuresDisk, ReadsDisk, WritesDisk, Cu
 
 use thiserror::Error;
 
-/// The device failed. It has counted that.
+/// The device failed.
 #[derive(Clone, Copy, Debug, PartialEq, Eq, Error)]
 #[error("the device failed")]
 pub struct DiskFault;

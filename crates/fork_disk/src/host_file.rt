@@ -1,14 +1,11 @@
-//! A file of the system, and how often it has failed.
+//! A file of the system, each call of which is noted.
 
-ghost use Rattle.std.specs.Prelude.{◌≡◌, ◌∷◌, true, false, length, IsErr, OnOk, OnErr, MatchResult};
-ghost use Rattle.fork_disk.specs.Disk.{Counts};
+ghost use Rattle.std.specs.Prelude.{◌≡◌, ◌∷◌, true, false, length, OnOk, OnErr};
 ghost use Rattle.fork_disk.specs.Record.{cut_event, len_event, read_event, sync_event, write_event};
 
 use crate::disk::DiskFault;
-use crate::failures::Failures;
 use crate::record::FileCalls;
 use std::fs::File;
-use std::io;
 use std::os::unix::fs::FileExt;
 
 const MEASURED: u64 = 0;
@@ -21,43 +18,40 @@ const CUT: u64 = 3;
 
 const SYNCED: u64 = 4;
 
-/// A file of the system. Nothing is claimed of its bytes. Each fault is counted, and so is a read that ends past the
-/// end. Each call is noted with its answer, and with which file it was of those that share a record.
+/// A file of the system. Nothing is claimed of its bytes. Each call is noted with its answer, and with which file it was
+/// of those that share a record. A read that ends past the end has failed.
 #[derive(Drop)]
 pub struct HostFile {
     file: File,
-    pub(crate) failures: Failures,
+    /// It was synced since it was opened, before anything was noted of it. Only clauses read it.
+    was_synced: bool,
     /// A sync of `settle` has failed.
     is_spent: bool,
     /// Which of the files it is that share a record. Only clauses read it.
     which: u64,
 }
 
-/// Counts a fault of the system.
-fn counted<T: Drop>(failures: &mut Failures, answer: io::Result<T>) -> Result<T, DiskFault>
-    ensures counts { Counts failures.old failures.new result }
-    ensures same { MatchResult answer (λ value. result ≡ Ok value) (λ _. IsErr result) }
-{
-    match answer {
-        Ok(value) => Ok(value),
-        Err(_) => Err(failures.count()),
-    }
-}
-
 impl HostFile {
-    /// A file that is open. No call on it has failed, and no sync of `settle`.
+    /// A file that is open, and wasn't synced since. No sync of `settle` has failed.
     pub fn new(file: File) -> HostFile
         ensures file { result.file ≡ file }
-        ensures unfailed { result.failures ≡ 0 }
+        ensures unsynced { result.was_synced ≡ false }
         ensures unspent { result.is_spent ≡ false }
         ensures which { result.which ≡ 0 }
     {
         HostFile {
             file,
-            failures: Failures::new(),
+            was_synced: false,
             is_spent: false,
             which: 0,
         }
+    }
+
+    /// The same file, and whether it was synced since it was opened.
+    pub fn having_synced(self, was_synced: bool) -> HostFile
+        ensures { result ≡ record self { was_synced = was_synced } }
+    {
+        HostFile { was_synced, ..self }
     }
 
     /// The same file, with a number of its own among those that share a record.
@@ -68,11 +62,8 @@ impl HostFile {
     }
 
     /// How many bytes there are.
-    pub fn len(&mut self, log: &mut FileCalls) -> Result<u64, DiskFault>
-        ensures cause { Counts self.old.failures self.new.failures result }
-        ensures spent { self.new.is_spent ≡ self.old.is_spent }
-        ensures which { self.new.which ≡ self.old.which }
-        ensures noted { log.new.events ≡ len_event self.old.which result ∷ log.old.events }
+    pub fn len(&self, log: &mut FileCalls) -> Result<u64, DiskFault>
+        ensures { log.new.events ≡ len_event self.now.which result ∷ log.old.events }
     {
         match self.file.metadata() {
             Ok(metadata) => {
@@ -82,25 +73,17 @@ impl HostFile {
             }
             Err(_) => {
                 log.note(&[MEASURED, 0, 0, self.which], &[]);
-                Err(self.failures.count())
+                Err(DiskFault)
             }
         }
     }
 
     /// Fills the buffer with the bytes at an offset.
-    pub fn read_at(
-        &mut self,
-        at: u64,
-        buffer: &mut [u8],
-        log: &mut FileCalls,
-    ) -> Result<(), DiskFault>
-        ensures cause { Counts self.old.failures self.new.failures result }
+    pub fn read_at(&self, at: u64, buffer: &mut [u8], log: &mut FileCalls) -> Result<(), DiskFault>
         ensures long { length buffer.new ≡ length buffer.old }
-        ensures spent { self.new.is_spent ≡ self.old.is_spent }
-        ensures which { self.new.which ≡ self.old.which }
-        ensures noted { log.new.events ≡ read_event self.old.which at buffer.new result ∷ log.old.events }
+        ensures noted { log.new.events ≡ read_event self.now.which at buffer.new result ∷ log.old.events }
     {
-        let answer = counted(&mut self.failures, self.file.read_exact_at(buffer, at));
+        let answer = self.file.read_exact_at(buffer, at).map_err(|_| DiskFault);
         match answer {
             Ok(()) => log.note(&[READ, at, 1, self.which], buffer),
             Err(_) => log.note(&[READ, at, 0, self.which], &[]),
@@ -109,37 +92,28 @@ impl HostFile {
     }
 
     /// Writes over what is there, and past the end.
-    pub fn write_at(&mut self, at: u64, bytes: &[u8], log: &mut FileCalls) -> Result<(), DiskFault>
-        ensures cause { Counts self.old.failures self.new.failures result }
-        ensures spent { self.new.is_spent ≡ self.old.is_spent }
-        ensures which { self.new.which ≡ self.old.which }
-        ensures noted { log.new.events ≡ write_event self.old.which at bytes.now result ∷ log.old.events }
+    pub fn write_at(&self, at: u64, bytes: &[u8], log: &mut FileCalls) -> Result<(), DiskFault>
+        ensures { log.new.events ≡ write_event self.now.which at bytes.now result ∷ log.old.events }
     {
-        let answer = counted(&mut self.failures, self.file.write_all_at(bytes, at));
+        let answer = self.file.write_all_at(bytes, at).map_err(|_| DiskFault);
         log.note(&[WRITTEN, at, u64::from(answer.is_ok()), self.which], bytes);
         answer
     }
 
     /// Cuts the bytes to a length, or grows them to it.
-    pub fn cut(&mut self, len: u64, log: &mut FileCalls) -> Result<(), DiskFault>
-        ensures cause { Counts self.old.failures self.new.failures result }
-        ensures spent { self.new.is_spent ≡ self.old.is_spent }
-        ensures which { self.new.which ≡ self.old.which }
-        ensures noted { log.new.events ≡ cut_event self.old.which len result ∷ log.old.events }
+    pub fn cut(&self, len: u64, log: &mut FileCalls) -> Result<(), DiskFault>
+        ensures { log.new.events ≡ cut_event self.now.which len result ∷ log.old.events }
     {
-        let answer = counted(&mut self.failures, self.file.set_len(len));
+        let answer = self.file.set_len(len).map_err(|_| DiskFault);
         log.note(&[CUT, len, u64::from(answer.is_ok()), self.which], &[]);
         answer
     }
 
     /// Makes what was written stable.
-    pub fn sync(&mut self, log: &mut FileCalls) -> Result<(), DiskFault>
-        ensures cause { Counts self.old.failures self.new.failures result }
-        ensures spent { self.new.is_spent ≡ self.old.is_spent }
-        ensures which { self.new.which ≡ self.old.which }
-        ensures noted { log.new.events ≡ sync_event self.old.which result ∷ log.old.events }
+    pub fn sync(&self, log: &mut FileCalls) -> Result<(), DiskFault>
+        ensures { log.new.events ≡ sync_event self.now.which result ∷ log.old.events }
     {
-        let answer = counted(&mut self.failures, self.file.sync_all());
+        let answer = self.file.sync_all().map_err(|_| DiskFault);
         log.note(&[SYNCED, 0, u64::from(answer.is_ok()), self.which], &[]);
         answer
     }
@@ -148,16 +122,16 @@ impl HostFile {
     /// for it, and still answer the next one as done. So after one that failed each fails, and no call of the system is
     /// made; it is noted as one that failed.
     pub fn settle(&mut self, log: &mut FileCalls) -> Result<(), DiskFault>
-        ensures cause { Counts self.old.failures self.new.failures result }
         ensures trusted { OnOk result (self.old.is_spent ≡ false) }
         ensures still { OnOk result (self.new.is_spent ≡ false) }
         ensures spent { OnErr result (self.new.is_spent ≡ true) }
         ensures which { self.new.which ≡ self.old.which }
+        ensures synced { self.new.was_synced ≡ self.old.was_synced }
         ensures noted { log.new.events ≡ sync_event self.old.which result ∷ log.old.events }
     {
         if self.is_spent {
             log.note(&[SYNCED, 0, 0, self.which], &[]);
-            return Err(self.failures.count());
+            return Err(DiskFault);
         }
         let answer = self.sync(log);
         self.is_spent = answer.is_err();

@@ -37,7 +37,7 @@ SideLeft Fork (Failed failed ∷ past) bytes = SideLeft Fork past bytes
 SideLeft Journal (Failed failed ∷ past) bytes = SideLeft Journal past bytes
 
 both_left : (history : History) (fork journal : Bytes) → SideLeft Fork history fork → SideLeft Journal history journal → MayLeave history (record { fork = fork; journal = journal })
-both_left [] fork journal first second = first
+both_left [] fork journal first second = tt
 both_left (Found c ∷ past) fork journal first second = λ i. record { fork = first i; journal = second i }
 both_left (Wrote Fork at n ∷ past) fork journal first second = (record { fork = first.0; journal = journal }, both_left past first.0 journal first.1 second, (first.2, refl))
 both_left (Wrote Journal at n ∷ past) fork journal first second = (record { fork = fork; journal = second.0 }, both_left past fork second.0 first second.1, (second.2, refl))

@@ -1,5 +1,5 @@
 -- What a crash may leave of a fork and its journal, which are one device with one clock.
-use Rattle.std.specs.Prelude.{◌≡◌, ℕ, ◌⊎◌, ◌||◌, Bool, true, false, List, [], ◌∷◌}
+use Rattle.std.specs.Prelude.{◌≡◌, ℕ, ◌⊎◌, ◌||◌, Bool, true, false, List, [], ◌∷◌, ⊤}
 use Rattle.fork_disk.specs.Crash.{AlwaysFinds, Finds}
 use Rattle.fork_disk.specs.Disk.{Torn, CutShort}
 use Rattle.fork_journal.specs.declared.pair.Side.{Side}
@@ -32,7 +32,7 @@ pub data Event : Type 0 where
   Synced : Side → List ℕ → Event
   Failed : Side → Event
 
--- the events of both sides since a start, the last one first
+-- the events of both sides since it was opened, the last one first
 abbrev pub History : Type 0
 History = List Event
 
@@ -55,11 +55,12 @@ abbrev pub has_failed : Side → History → Bool
 has_failed side [] = false
 has_failed side (event ∷ past) = fails_on event side || has_failed side past
 
--- What a crash after these events may leave: each write and each cut may be done in part or not at all, by itself, and
+-- What a crash after these events may leave. Where nothing is known of the pair, that is anything: what is read of it
+-- may wait to be written, as in a file that was just copied. Each write and each cut may be done in part or not at all, by itself, and
 -- of this a sync leaves only what its side read then. A sync that failed may have dropped what waited for it, so after
 -- one no later sync of its side counts.
 abbrev pub MayLeave : History → Contents → Type 0
-MayLeave [] c = ⊥
+MayLeave [] c = ⊤
 MayLeave (Found d ∷ past) c = c ≡ d
 MayLeave (Wrote side at n ∷ past) c = (d : Contents) × MayLeave past d × OnSide side (Torn at n) d c
 MayLeave (Cut side n ∷ past) c = (d : Contents) × MayLeave past d × OnSide side (CutShort n) d c

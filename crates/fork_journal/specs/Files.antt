@@ -5,7 +5,7 @@ use Rattle.fork_disk.specs.Disk.{bytes_at, put_at, Torn, CutShort}
 use Rattle.fork_disk.specs.Record as files
 use Rattle.fork_journal.specs.declared.pair.Side.{Side}
 use Rattle.fork_journal.specs.declared.pair.Side.TheVariants.{Fork, Journal}
-use Rattle.fork_journal.specs.Crash.{Contents, History, Found, Wrote, Cut, Synced, Failed, MayLeave, OnSide, side_of}
+use Rattle.fork_journal.specs.Crash.{Contents, History, Wrote, Cut, Synced, Failed, MayLeave, OnSide, side_of}
 
 -- the side of a number, as it is noted
 abbrev pub side_at : ℕ → Side
@@ -43,9 +43,10 @@ happened (suc (suc (suc zero))) side len ok bytes old past = Cut side len ∷ pa
 happened (suc (suc (suc (suc more)))) side n true bytes old past = Synced side (side_of side old) ∷ past
 happened (suc (suc (suc (suc more)))) side n false bytes old past = Failed side ∷ past
 
--- what happened to the pair since a start
+-- What happened to the pair since its files were opened: the disk might have anything then, and both were synced before
+-- the first of these calls.
 abbrev pub history_of : (List files.Event → Contents) → List files.Event → History
-history_of held [] = Found (held []) ∷ []
+history_of held [] = Synced Journal (held []).journal ∷ Synced Fork (held []).fork ∷ []
 history_of held (e ∷ past) = happened (files.call_of e) (side_in e) (files.number_of e) (files.is_done e) e.1 (held past) (history_of held past)
 
 same_outcome : (history : History) (old new : Contents) → new ≡ old → MayLeave history old → MayLeave history new
@@ -62,6 +63,6 @@ step_outcome (suc (suc (suc (suc more)))) side n false bytes old new past may fi
 
 -- an honest pair reads as a crash may leave it
 pub reads_outcome : (held : List files.Event → Contents) (calls : List files.Event) → IsHonest held calls → MayLeave (history_of held calls) (held calls)
-reads_outcome held [] honest = refl
+reads_outcome held [] honest = ((tt, λ _. refl), λ _. refl)
 reads_outcome held (e ∷ past) honest =
     step_outcome (files.call_of e) (side_in e) (files.number_of e) (files.is_done e) e.1 (held past) (held (e ∷ past)) (history_of held past) (reads_outcome held past honest.0) honest.1

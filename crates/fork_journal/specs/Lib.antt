@@ -6,6 +6,7 @@ pub mod Outcome
 pub mod Leaving
 pub mod Stopping
 pub mod Files
+pub mod OnFiles
 pub mod OnPair
 pub mod Pairs
 pub mod Updates

@@ -1,10 +1,11 @@
 //! A fork and its journal that are two files.
 
-ghost use Rattle.std.specs.Prelude.{◌≡◌, ◌+◌, false, [], OnOk};
+ghost use Rattle.std.specs.Prelude.{◌≡◌, false, [], OnOk};
 ghost use Rattle.fork_disk.specs.Disk.{Counts};
+ghost use Rattle.fork_disk.specs.Record.{failed_calls};
 ghost use Rattle.fork_journal.specs.Crash.{has_failed};
 ghost use Rattle.fork_journal.specs.declared.pair.Side.TheVariants.{Fork, Journal};
-ghost use Rattle.fork_journal.specs.Files.{IsHonest, file_on, history_of, reads_outcome, side_at};
+ghost use Rattle.fork_journal.specs.Files.{file_on, history_of, reads_outcome, side_at};
 ghost use Rattle.fork_journal.specs.OnPair.{SyncsSide};
 
 use crate::pair::{PairDisk, Side};
@@ -14,9 +15,10 @@ use fork_disk::{FileCalls, HostFile};
 use std::marker::PhantomData;
 
 /// A fork and its journal that are two files. Each call of the system is noted with its answer, in one record for both,
-/// that only clauses read. The pair is honest where these answers are those of the files in its world, so that nobody
-/// else wrote them. The two are one device: their faults are one count, and a machine that stops, stops both. After a
-/// sync that failed, each sync of that file fails.
+/// that only clauses read. The pair is honest where both files were synced once they were open, and these answers are
+/// those of the files in its world, so that nobody else wrote them. The two are one device: it has failed as often as
+/// calls in the record have, and a machine that stops, stops both. After a sync that failed, each sync of that file
+/// fails.
 #[derive(Drop)]
 pub struct FilePair<W: PairWorld> {
     fork: HostFile,
@@ -31,13 +33,17 @@ pub struct FilePair<W: PairWorld> {
 }
 
 impl<W: PairWorld> FilePair<W> {
-    /// The pair of two files, which must not be the same one, and of which nothing was asked so far. No other pair of
-    /// this world may have its number.
+    ghost use Rattle.fork_journal.specs.Crash.{Leaves};
+    ghost use Rattle.fork_journal.specs.OnFiles.{contents_in, history_in};
+
+    /// The pair of two files, which must not be the same one, and of which nothing was asked since they were opened, but
+    /// that each was synced. No other pair of this world may have its number.
     pub fn new(fork: HostFile, journal: HostFile, number: u64) -> FilePair<W>
         ensures fork { result.fork ≡ record fork { which = 0 } }
         ensures journal { result.journal ≡ record journal { which = 1 } }
         ensures number { result.number ≡ number }
         ensures start { result.log.events ≡ [] }
+        ensures settled { Leaves (λ c. c ≡ contents_in W.PairWorld result) (history_in W.PairWorld result) }
     {
         FilePair {
             fork: fork.numbered(0),
@@ -50,15 +56,17 @@ impl<W: PairWorld> FilePair<W> {
 }
 
 impl<W: PairWorld> PairDisk for FilePair<W> {
-    ghost contents = { λ pair. W.held pair.number pair.log.events };
+    ghost use Rattle.fork_journal.specs.OnFiles.{IsHonestIn, contents_in, history_in};
 
-    ghost history = { λ pair. history_of (W.held pair.number) pair.log.events };
+    ghost contents = { contents_in W.PairWorld };
 
-    ghost is_honest = { λ pair. IsHonest (W.held pair.number) pair.log.events };
+    ghost history = { history_in W.PairWorld };
 
-    ghost failures = { λ pair. pair.fork.failures + pair.journal.failures };
+    ghost is_honest = { IsHonestIn W.PairWorld };
 
-    ghost reads_is_outcome = { λ pair honest. reads_outcome (W.held pair.number) pair.log.events honest };
+    ghost failures = { λ pair. failed_calls pair.log.events };
+
+    ghost reads_is_outcome = { λ pair honest. reads_outcome (W.held pair.number) pair.log.events honest.answers };
 
     fn len(&mut self, side: Side) -> Result<u64, DiskFault> {
         match side {
@@ -90,9 +98,8 @@ impl<W: PairWorld> PairDisk for FilePair<W> {
 
     /// Makes a side stable. After one that succeeded, the system is asked for the next one too.
     fn sync(&mut self, side: Side) -> Result<(), DiskFault>
-        ensures syncs { IsHonest (W.held self.new.number) self.new.log.events → SyncsSide (W.held self.old.number) (history_of (W.held self.old.number))
-            (IsHonest (W.held self.old.number)) self.old.log.events self.new.log.events side result }
-        ensures cause { Counts (self.old.fork.failures + self.old.journal.failures) (self.new.fork.failures + self.new.journal.failures) result }
+        ensures syncs { IsHonestIn W.PairWorld self.new → SyncsSide (contents_in W.PairWorld) (history_in W.PairWorld) (IsHonestIn W.PairWorld) self.old self.new side result }
+        ensures cause { Counts (failed_calls self.old.log.events) (failed_calls self.new.log.events) result }
         ensures number { self.new.number ≡ self.old.number }
         ensures still { OnOk result ((file_on side self.new.fork self.new.journal).is_spent ≡ false) }
     {

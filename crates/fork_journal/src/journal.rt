@@ -1,8 +1,8 @@
 //! The fork of a resource file that has a journal.
 
-ghost use Rattle.std.specs.Prelude.{◌≡◌, ◌<◌, ◌^◌, ⊤, [], ◌∷◌, length};
+ghost use Rattle.std.specs.Prelude.{◌≡◌, ◌<◌, ◌^◌, ⊤, length};
 ghost use Rattle.std.proofs.Common.{refl, ◌∙◌, ap};
-ghost use Rattle.fork_journal.specs.Crash.{Event, Found, History, MayLeave};
+ghost use Rattle.fork_journal.specs.Crash.{Event, History, Leaves, MayLeave};
 ghost use Rattle.fork_journal.specs.Recovery.{copied_length, settled_fork, IsReady, IsStable, IsEither, MayFind};
 ghost use Rattle.fork_journal.specs.Updates.{pair_fork, CanRecover, IsPairReady};
 
@@ -23,9 +23,10 @@ pub struct Journal<P: PairDisk> {
 }
 
 impl<P: PairDisk> Journal<P> {
-    /// The store of a pair as a start finds it, whatever a crash left. It has to be recovered before it is read.
+    /// The store of a pair as a start finds it, whatever a crash left: nothing of what it reads waits for a sync. It has
+    /// to be recovered before it is read.
     pub fn new(alloc: Global, pair: P) -> Journal<P>
-        requires { P.is_honest pair → P.history pair ≡ Found (P.contents pair) ∷ [] }
+        requires { P.is_honest pair → Leaves (λ c. c ≡ P.contents pair) (P.history pair) }
         ensures pair { result.pair ≡ pair }
         ensures failures { P.failures result.pair ≡ P.failures pair }
         ensures stable { P.is_honest pair → IsStable (P.contents pair) (P.history pair) }

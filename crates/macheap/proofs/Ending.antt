@@ -109,7 +109,7 @@ because (ScriptFault line wrong) read_failed write_failed read write = tt
 
 module _ {S : Type 0} (store : Ghosts S) (sizes : ZoneSizes) (done : Done) where
   -- a run over the stores that were opened
-  pub ran_over : (stores left : List S) (end : RunEnd) → (end ≡ ReadFault → done.read_failed) → (end ≡ WriteFault → done.told.write_failed) → Ends store (start_of sizes stores) done.input end done.told.written left
+  pub ran_over : (stores left : List S) (end : RunEnd) → (end ≡ ReadFault → done.read_failed) → (end ≡ WriteFault → done.told.write_failed) → Ends store (start_of sizes stores) done.input end done.told.written done.told.begun left
       → done.told.status ≡ status_of end → SaysWhy end done.told.silent done.told.tell_failed done.told.said → RunsOver store sizes stores left done
   ran_over stores left end read write ends status says = record { end = end; ends = ends; because = because end done.read_failed done.told.write_failed read write; status = status; says = says }
 

@@ -11,6 +11,7 @@ use Rattle.host_paths.specs.declared.host.HostCall.TheVariants.{Of, Open, OpenOr
 use Rattle.host_paths.specs.declared.host.Locking.{Locking}
 use Rattle.host_paths.specs.declared.host.Locking.TheVariants.{Busy}
 use Rattle.host_paths.specs.declared.host.Syncing.{Syncing}
+use Rattle.host_paths.specs.declared.host.Syncing.TheVariants.{Done, NotOffered}
 use Rattle.macheap.specs.declared.opened.NewFile.{NewFile}
 use Rattle.macheap.specs.declared.claimed.Naming.{Naming}
 use Rattle.macheap.specs.declared.claimed.Naming.TheVariants.{Once}
@@ -44,21 +45,27 @@ HasLock file old new = (locking : Locking) × (locking ≢ Busy) × (new ≡ Loc
 abbrev pub LeadsTo : Text → Found → Log → Log → Type 0
 LeadsTo path here old new = (there : Found) × (same_file there here ≡ true) × (new ≡ Over path (Is there) ∷ old)
 
+-- whether a file was synced, by what the system answered
+abbrev pub is_synced : Syncing → Bool
+is_synced Done = true
+is_synced NotOffered = false
+
 -- This file was locked, and after that its path led to it still; then it was synced, if that is offered.
-abbrev pub IsHeld : Text → File → Found → Log → Log → Type 0
-IsHeld path file here old new = (locked : Log) × (led : Log) × (syncing : Syncing)
-    × HasLock file old locked × LeadsTo path here locked led × (new ≡ Sync file (Some syncing) ∷ led)
+abbrev pub IsHeld : Text → File → Found → Bool → Log → Log → Type 0
+IsHeld path file here was_synced old new = (locked : Log) × (led : Log) × (syncing : Syncing)
+    × HasLock file old locked × LeadsTo path here locked led × (new ≡ Sync file (Some syncing) ∷ led) × (was_synced ≡ is_synced syncing)
 
--- so was a regular file; of another nothing was asked
-pub record IsClaimed (path : Text) (file : File) (here : Found) (old new : Log) : Type 0 where
-  pub held : is_regular here.kind ≡ true → IsHeld path file here old new
-  pub other : is_regular here.kind ≡ false → new ≡ old
+-- so was a regular file; of another nothing was asked, and it wasn't synced
+pub record IsClaimed (path : Text) (file : File) (here : Found) (was_synced : Bool) (old new : Log) : Type 0 where
+  pub held : is_regular here.kind ≡ true → IsHeld path file here was_synced old new
+  pub other : is_regular here.kind ≡ false → (new ≡ old) × (was_synced ≡ false)
 
--- What is asked of a file that was opened: the file itself, which one it is, and the calls of the system so far, the
--- newest first.
+-- What is asked of a file that was opened: the file itself, which one it is, whether it was synced, and the calls of the
+-- system so far, the newest first.
 pub record Asking (F : Type 0) : Type 1 where
   pub file : F → File
   pub id : F → Found
+  pub was_synced : F → Bool
   pub calls : F → Log
 
 -- a file of the host as it was opened
@@ -66,6 +73,7 @@ abbrev pub as_opened : Asking NewFile
 as_opened = record {
   file = λ file. file.file.file;
   id = λ file. file.id;
+  was_synced = λ file. file.file.was_synced;
   calls = λ file. file.calls.events;
 }
 
@@ -74,8 +82,8 @@ as_opened = record {
 pub record IsNamed {F : Type 0} (asking : Asking F) (naming : Naming) (known : List Found) (path : Text) (file : F) : Type 0 where
   pub start : Log
   pub opened : Opens path (asking.file file) [] start
-  pub claimed : is_known known (asking.id file) ≡ false → IsClaimed path (asking.file file) (asking.id file) (Of (asking.file file) (Is (asking.id file)) ∷ start) (asking.calls file)
-  pub again : is_known known (asking.id file) ≡ true → asking.calls file ≡ Of (asking.file file) (Is (asking.id file)) ∷ start
+  pub claimed : is_known known (asking.id file) ≡ false → IsClaimed path (asking.file file) (asking.id file) (asking.was_synced file) (Of (asking.file file) (Is (asking.id file)) ∷ start) (asking.calls file)
+  pub again : is_known known (asking.id file) ≡ true → (asking.calls file ≡ Of (asking.file file) (Is (asking.id file)) ∷ start) × (asking.was_synced file ≡ false)
   pub once : naming ≡ Once → is_known known (asking.id file) ≡ false
 
 -- so the file of this path was opened; or it wasn't: as a second name only where it is one of these, and may not be named again

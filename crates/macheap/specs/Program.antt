@@ -8,7 +8,7 @@ use Rattle.mac_base.specs.declared.zone_spec.BadSpec.{BadSpec}
 use Rattle.path_text.specs.FileNames.{shown_name}
 use Rattle.script_run.specs.declared.end.RunEnd.{RunEnd}
 use Rattle.script_run.specs.declared.end.RunEnd.TheVariants.{Finished, ScriptFault, NoMemory, ReadFault, WriteFault}
-use Rattle.script_run.specs.Counting.{Counting, Gave, RoseByOne, Took}
+use Rattle.script_run.specs.Counting.{Counting, Gave, RoseByOne, Took, begun_since}
 use Rattle.script_run.specs.End.{status_of}
 use Rattle.script_run.specs.Line.{start_of}
 use Rattle.script_run.specs.Run.{Ends, IsProperFront, no_memory_text}
@@ -35,11 +35,12 @@ Because Finished read_failed write_failed = ⊤
 Because NoMemory read_failed write_failed = ⊤
 Because (ScriptFault line wrong) read_failed write_failed = ⊤
 
--- What the program reported: its status, what it wrote to its output and to its messages, that it made no call on the
--- latter, and that a write of the one or the other failed.
+-- What the program reported: its status, what it wrote to its output, how much of that when each line of a script began,
+-- what it wrote to its messages, that it made no call on these, and that a write of the one or the other failed.
 pub record Told : Type 1 where
   pub status : ℕ
   pub written : List ℕ
+  pub begun : List (List ℕ)
   pub said : List ℕ
   pub silent : Type 0
   pub write_failed : Type 0
@@ -58,6 +59,7 @@ Tells contents notes output output_now messages messages_now status So = (writte
     × So (record {
       status = status;
       written = written;
+      begun = begun_since output output_now;
       said = said;
       silent = messages_now ≡ messages;
       write_failed = RoseByOne output.failures output_now.failures;
@@ -142,7 +144,7 @@ SaysWhy WriteFault silent failed said = silent
 -- A run on a zone of these sizes and these stores ended so, and left them so.
 pub record RunsOver {S : Type 0} (store : Ghosts S) (sizes : ZoneSizes) (stores left : List S) (done : Done) : Type 0 where
   pub end : RunEnd
-  pub ends : Ends store (start_of sizes stores) done.input end done.told.written left
+  pub ends : Ends store (start_of sizes stores) done.input end done.told.written done.told.begun left
   pub because : Because end done.read_failed done.told.write_failed
   pub status : done.told.status ≡ status_of end
   pub says : SaysWhy end done.told.silent done.told.tell_failed done.told.said

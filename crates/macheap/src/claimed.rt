@@ -6,8 +6,8 @@ ghost use Rattle.macheap.specs.Claiming.{HasLock, IsClaimed, IsOpening, LeadsTo,
 use crate::opened::{NewFile, NotOpened};
 use fork_disk::HostFile;
 use host_paths::{
-    Access, Found, HostCalls, Locking, folder_name, followed, found_of, found_over, lock, open,
-    open_or_make, sync,
+    Access, Found, HostCalls, Locking, Syncing, folder_name, followed, found_of, found_over, lock,
+    open, open_or_make, sync,
 };
 use std::fs::File;
 use std::io;
@@ -109,24 +109,26 @@ fn refuse_moved(
 }
 
 /// Locks the file that was opened by a path, and syncs it, so that a crash leaves what is read of it. It is refused where
-/// another program has the lock, or has put another file there. A device or a pipe is left as it is.
+/// another program has the lock, or has put another file there. A device or a pipe is left as it is. It says whether the
+/// file was synced.
 fn claim(
     rt: &HostRuntime,
     path: &str,
     file: &File,
     found: &Found,
     calls: &mut HostCalls,
-) -> Result<(), NotOpened>
-    ensures claims { OnOk result (IsClaimed path.now file.now found.now calls.old.events calls.new.events) }
+) -> Result<bool, NotOpened>
+    ensures claims { IfOk result (λ was_synced. IsClaimed path.now file.now found.now was_synced calls.old.events calls.new.events) }
     ensures first { IfErr result (λ why. why ≢ NotOpened.Twice) }
 {
     if !found.is_regular() {
-        return Ok(());
+        return Ok(false);
     }
     take_lock(file, calls)?;
     refuse_moved(rt, path, found, calls)?;
     match sync(file, calls) {
-        Ok(_) => Ok(()),
+        Ok(Syncing::Done) => Ok(true),
+        Ok(Syncing::NotOffered) => Ok(false),
         Err(error) => Err(unopened(error)),
     }
 }
@@ -144,13 +146,13 @@ pub fn open_claimed(
     let mut calls = HostCalls::new();
     let file = opened(rt, path, &mut calls)?;
     let found = found_of(&file, &mut calls).map_err(unopened)?;
-    match (is_known(known, &found), naming) {
+    let was_synced = match (is_known(known, &found), naming) {
         (false, _) => claim(rt, path, &file, &found, &mut calls)?,
-        (true, Naming::Repeated) => {}
+        (true, Naming::Repeated) => false,
         (true, Naming::Once) => return Err(NotOpened::Twice),
-    }
+    };
     Ok(NewFile {
-        file: HostFile::new(file),
+        file: HostFile::new(file).having_synced(was_synced),
         id: found,
         calls,
     })

@@ -7,7 +7,7 @@ use host_paths::{Found, HostCalls};
 use std::collections::LinkedList;
 use std::io::ErrorKind;
 
-/// A file of the host as it was opened: no call on it has failed so far, and no sync of `settle`.
+/// A file of the host as it was opened. No sync of `settle` has failed.
 #[derive(Drop)]
 pub struct NewFile {
     pub file: HostFile,
@@ -15,7 +15,6 @@ pub struct NewFile {
     pub id: Found,
     /// The calls of the system by which it was opened. Only clauses read them.
     pub calls: HostCalls,
-    ghost unfailed: { file.failures ≡ 0 },
     ghost unspent: { file.is_spent ≡ false },
 }
 

@@ -1,8 +1,9 @@
 -- How the parts of a run make its end.
-use Rattle.std.proofs.Common.{◌≡◌, ℕ, ◌+◌, List, [], ◌∷◌, ◌++◌, Some, take, drop, refl, sym, ap, subst, ◌∙◌, append_assoc, ◌⊎◌, inl, inr}
+use Rattle.std.proofs.Common.{◌≡◌, ℕ, ◌+◌, List, [], ◌∷◌, ◌++◌, ◌≢◌, Some, length, map, take, drop, refl, sym, ap, subst, ◌∙◌, append_assoc, ◌⊎◌, inl, inr}
 use Rattle.std.specs.Prelude.{slice_get}
 use Rattle.std.specs.List.{concat}
 use Rattle.std.proofs.lemmas.List.{append-nil, take_more, take-append-drop}
+use Rattle.std.proofs.Math.Seq.{drop-append_seam}
 use Rattle.std.proofs.lemmas.Option.{get_or_from_slice_get, slice_get_within}
 use Rattle.fork_disk.specs.declared.store.ForkStore.{Ghosts}
 use Rattle.script_lang.specs.declared.line.Line.{Line}
@@ -12,8 +13,9 @@ use Rattle.script_lang.specs.Text.{fault_text, no_memory_text}
 use Rattle.script_run.specs.declared.end.RunEnd.{RunEnd}
 use Rattle.script_run.specs.declared.end.RunEnd.TheVariants.{Finished, ScriptFault, NoMemory, WriteFault}
 use Rattle.script_run.specs.declared.machine.Machine.{Machine}
+use Rattle.script_run.specs.Counting.{Counting, begun_since}
 use Rattle.script_run.specs.Line.{LineDoes}
-use Rattle.script_run.specs.Run.{AreRun, IsRun, Ran, IsProperFront, Ends, Makes, Tells, stores_of}
+use Rattle.script_run.specs.Run.{AreRun, IsRun, Ran, IsProperFront, Ends, Makes, Tells, fronts, stores_of, written_before}
 use Rattle.script_run.specs.Starting.{IsNoScript, TellsNoScript}
 use Rattle.script_run.specs.declared.reading.NoScript.{NoScript}
 use Rattle.script_run.specs.declared.reading.NoScript.TheVariants as why
@@ -22,6 +24,31 @@ use Rattle.script_run.proofs.Opening.{same_forks}
 pub concat-push : (texts : List (List ℕ)) (text : List ℕ) → concat (texts ++ text ∷ []) ≡ concat texts ++ text
 concat-push [] text = append-nil text
 concat-push (t ∷ texts) text = ap (λ (rest : List ℕ). t ++ rest) (concat-push texts text) ∙ sym (append_assoc t (concat texts) text)
+
+before-push : (front : List ℕ) (texts : List (List ℕ)) (text : List ℕ) → written_before front (texts ++ text ∷ []) ≡ written_before front texts ++ (front ++ concat texts) ∷ []
+before-push front [] text = ap (λ (f : List ℕ). f ∷ []) (sym (append-nil front))
+before-push front (t ∷ texts) text =
+    ap (λ (rest : List (List ℕ)). front ∷ rest) (before-push (front ++ t) texts text ∙ ap (λ (f : List ℕ). written_before (front ++ t) texts ++ f ∷ []) (append_assoc front t (concat texts)))
+
+-- one more text: all before it were written
+pub fronts-push : (texts : List (List ℕ)) (text : List ℕ) → texts ≢ [] → fronts (texts ++ text ∷ []) ≡ fronts texts ++ concat texts ∷ []
+fronts-push [] text some = absurd (some refl)
+fronts-push (t ∷ texts) text some = before-push t texts text
+
+after_front : (front : List ℕ) (later : List (List ℕ)) → map (λ f. drop (length front) f) (map (λ f. front ++ f) later) ≡ later
+after_front front [] = refl
+after_front front (f ∷ later) = λ i. drop-append_seam front f i ∷ after_front front later i
+
+-- what had been written since when each line began
+pub began_since : {T : Type 0} (old new : Counting T) (later : List (List ℕ)) → new.begun ≡ old.begun ++ map (λ f. old.passed ++ f) later → begun_since old new ≡ later
+began_since old new later is =
+    ap (λ (all : List (List ℕ)). map (λ f. drop (length old.passed) f) (drop (length old.begun) all)) is
+    ∙ ap (λ (all : List (List ℕ)). map (λ f. drop (length old.passed) f) all) (drop-append_seam old.begun (map (λ f. old.passed ++ f) later))
+    ∙ after_front old.passed later
+
+-- no line began
+pub none_began : {T : Type 0} (old new : Counting T) → new.begun ≡ old.begun → begun_since old new ≡ []
+none_began old new same = began_since old new [] (same ∙ sym (append-nil old.begun))
 
 module _ {S : Type 0} (store : Ghosts S) where
   -- a run goes on by one line
@@ -57,40 +84,40 @@ module _ {S : Type 0} (store : Ghosts S) (start : Machine S) (input : List ℕ) 
     run = run;
   }
 
-module _ {S : Type 0} (store : Ghosts S) (start : Machine S) (input : List ℕ) (left : List S) where
+module _ {S : Type 0} (store : Ghosts S) (start : Machine S) (input : List ℕ) (left : List S) (begun : List (List ℕ)) where
   -- all replies were written
-  pub all_told : (ran : Ran store start input) → ran.rest ≡ [] → left ≡ stores_of ran.last → Ends store start input Finished (concat ran.texts) left
-  all_told ran none same = (ran.texts, (ran, none, refl, same), refl)
+  pub all_told : (ran : Ran store start input) → ran.rest ≡ [] → left ≡ stores_of ran.last → begun ≡ fronts ran.texts → Ends store start input Finished (concat ran.texts) begun left
+  all_told ran none same began = (ran.texts, (ran, none, refl, same), refl, began)
 
   -- of the last reply a front was written
-  pub reply_cut : (ran : Ran store start input) (whole : List (List ℕ)) (last front : List ℕ) → ran.texts ≡ whole ++ last ∷ [] → left ≡ stores_of ran.last → IsProperFront front last
-      → Ends store start input WriteFault (concat whole ++ front) left
-  reply_cut ran whole last front are same is = (WriteFault, ran.texts, (ran, refl, same), (whole, last, front, are, is, refl))
+  pub reply_cut : (ran : Ran store start input) (whole : List (List ℕ)) (last front : List ℕ) → ran.texts ≡ whole ++ last ∷ [] → left ≡ stores_of ran.last → begun ≡ fronts ran.texts → IsProperFront front last
+      → Ends store start input WriteFault (concat whole ++ front) begun left
+  reply_cut ran whole last front are same began is = (WriteFault, ran.texts, (ran, refl, same), (whole, last, front, are, is, refl), began)
 
   -- it was reported that host memory ended
-  pub none_told : (replies : List (List ℕ)) (end : RunEnd) (written : List ℕ) → Makes store start input NoMemory (replies ++ no_memory_text ∷ []) left → Tells NoMemory no_memory_text end written
-      → Ends store start input end (concat replies ++ written) left
-  none_told replies end written makes (inl told) = subst (λ (e : RunEnd). Ends store start input e (concat replies ++ written) left) (sym told.0)
-      (replies ++ no_memory_text ∷ [], makes, ap (λ (t : List ℕ). concat replies ++ t) told.1 ∙ sym (concat-push replies no_memory_text))
-  none_told replies end written makes (inr cut) = subst (λ (e : RunEnd). Ends store start input e (concat replies ++ written) left) (sym cut.0)
-      (NoMemory, replies ++ no_memory_text ∷ [], makes, (replies, no_memory_text, written, refl, cut.1, refl))
+  pub none_told : (replies : List (List ℕ)) (end : RunEnd) (written : List ℕ) → Makes store start input NoMemory (replies ++ no_memory_text ∷ []) left → begun ≡ fronts (replies ++ no_memory_text ∷ [])
+      → Tells NoMemory no_memory_text end written → Ends store start input end (concat replies ++ written) begun left
+  none_told replies end written makes began (inl told) = subst (λ (e : RunEnd). Ends store start input e (concat replies ++ written) begun left) (sym told.0)
+      (replies ++ no_memory_text ∷ [], makes, ap (λ (t : List ℕ). concat replies ++ t) told.1 ∙ sym (concat-push replies no_memory_text), began)
+  none_told replies end written makes began (inr cut) = subst (λ (e : RunEnd). Ends store start input e (concat replies ++ written) begun left) (sym cut.0)
+      (NoMemory, replies ++ no_memory_text ∷ [], makes, (replies, no_memory_text, written, refl, cut.1, refl), began)
 
-  module _ (same : left ≡ stores_of start) where
+  module _ (same : left ≡ stores_of start) (none : begun ≡ []) where
     -- before any line was run, the host had no memory
-    pub none_at_start : (end : RunEnd) (written : List ℕ) → Tells NoMemory no_memory_text end written → Ends store start input end written left
-    none_at_start end written told = none_told [] end written (inl (refl, same_forks store (stores_of start) left same)) told
+    pub none_at_start : (end : RunEnd) (written : List ℕ) → Tells NoMemory no_memory_text end written → Ends store start input end written begun left
+    none_at_start end written told = none_told [] end written (inl (refl, same_forks store (stores_of start) left same)) none told
 
     -- it was reported which line is none
     fault_told : (line : ℕ) (wrong : Wrong) (end : RunEnd) (written : List ℕ) → IsFaultAt input line → Tells (ScriptFault line wrong) (fault_text line) end written ⊎ Tells NoMemory no_memory_text end written
-        → Ends store start input end written left
-    fault_told line wrong end written is (inl (inl told)) = subst (λ (e : RunEnd). Ends store start input e written left) (sym told.0)
-        (fault_text line ∷ [], (is, refl, same), told.1 ∙ sym (append-nil (fault_text line)))
-    fault_told line wrong end written is (inl (inr cut)) = subst (λ (e : RunEnd). Ends store start input e written left) (sym cut.0)
-        (ScriptFault line wrong, fault_text line ∷ [], (is, refl, same), ([], fault_text line, written, refl, cut.1, refl))
+        → Ends store start input end written begun left
+    fault_told line wrong end written is (inl (inl told)) = subst (λ (e : RunEnd). Ends store start input e written begun left) (sym told.0)
+        (fault_text line ∷ [], (is, refl, same), told.1 ∙ sym (append-nil (fault_text line)), none)
+    fault_told line wrong end written is (inl (inr cut)) = subst (λ (e : RunEnd). Ends store start input e written begun left) (sym cut.0)
+        (ScriptFault line wrong, fault_text line ∷ [], (is, refl, same), ([], fault_text line, written, refl, cut.1, refl), none)
     fault_told line wrong end written is (inr told) = none_at_start end written told
 
     -- it was reported why there is no script
-    pub no_script_told : (fault : NoScript) (end : RunEnd) (written : List ℕ) → IsNoScript input fault → TellsNoScript fault end written → Ends store start input end written left
+    pub no_script_told : (fault : NoScript) (end : RunEnd) (written : List ℕ) → IsNoScript input fault → TellsNoScript fault end written → Ends store start input end written begun left
     no_script_told (why.BadLine line wrong) end written is told = fault_told line wrong end written is told
     no_script_told why.HostFull end written is told = none_at_start end written told
-    no_script_told why.ReadFault end written is told = subst (λ (e : RunEnd). Ends store start input e written left) (sym told.0) ([], (refl, same), told.1)
+    no_script_told why.ReadFault end written is told = subst (λ (e : RunEnd). Ends store start input e written begun left) (sym told.0) ([], (refl, same), told.1, none)

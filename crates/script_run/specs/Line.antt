@@ -15,7 +15,7 @@ use Rattle.res_files.specs.FilesOn.{HonestAt, WereHonest, fork_of}
 use Rattle.res_manager.specs.Crash.{CrashLeaves}
 use Rattle.res_table.specs.OpenFiles.{no_files}
 use Rattle.held_calls.specs.Answers.{no_answers}
-use Rattle.toolbox.specs.Steps.{Gives, LeavesAnswers, Steps, Unchanged, takes_memory}
+use Rattle.toolbox.specs.Steps.{Gives, LeavesAnswers, Steps, Unchanged, refusal_of, takes_memory}
 use Rattle.script_lang.specs.declared.line.CallLine.{CallLine}
 use Rattle.script_lang.specs.declared.line.Line.{Line}
 use Rattle.script_lang.specs.declared.line.Statement.{Statement}
@@ -98,10 +98,11 @@ abbrev pub SameForks : {S : Type 0} → Ghosts S → List S → List S → Type 
 SameForks store old new = WereHonest store.is_honest old new × (length new ≡ length old)
     × ((k : ℕ) → 1 ≤ k → HonestAt store.is_honest new k → fork_of store.fork k new ≡ fork_of store.fork k old) × CrashLeaves store None old new
 
--- From old, the call of a line isn't made for want of host memory: all is as it was, and it is a call that takes some.
+-- From old, the call of a line isn't made for want of host memory: all is as it was, and it is a call that takes some
+-- and isn't refused.
 abbrev pub IsUnmade : {S : Type 0} → Ghosts S → Machine S → CallLine → Machine S → Type 0
 IsUnmade store old line new = let call = call_of old.variables line in
-    Unchanged store old.toolbox call new.toolbox × IsTrue (takes_memory store old.toolbox call)
+    Unchanged store old.toolbox call new.toolbox × IsTrue (takes_memory store old.toolbox call) × (refusal_of store old.toolbox call ≡ None)
 
 -- From old, the call of the line of this number is made, and leaves new; but its reply has more bytes than there is
 -- room for.

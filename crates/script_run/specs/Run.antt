@@ -57,15 +57,26 @@ Makes store start input WriteFault texts left = (ran : Ran store start input) ×
 abbrev pub IsProperFront : List ℕ → List ℕ → Type 0
 IsProperFront front whole = (rest : List ℕ) × (whole ≡ front ++ rest) × (rest ≢ [])
 
+-- what had been written when the later of these texts were made, where each was written before the next was made
+abbrev pub written_before : List ℕ → List (List ℕ) → List (List ℕ)
+written_before front [] = []
+written_before front (text ∷ texts) = front ∷ written_before (front ++ text) texts
+
+-- so it is of all but the first, which nothing is written before
+abbrev pub fronts : List (List ℕ) → List (List ℕ)
+fronts [] = []
+fronts (text ∷ texts) = written_before text texts
+
 -- all but the last of these texts were written whole, and of the last one a proper front
 abbrev pub IsCut : List (List ℕ) → List ℕ → Type 0
 IsCut texts written = (whole : List (List ℕ)) × (last : List ℕ) × (front : List ℕ) × (texts ≡ whole ++ last ∷ []) × IsProperFront front last × (written ≡ concat whole ++ front)
 
 -- A run from start on this input ends so, having written this, and leaves these stores: all texts were written, or a
--- write failed at the last one that was made.
-abbrev pub Ends : {S : Type 0} → Ghosts S → Machine S → List ℕ → RunEnd → List ℕ → List S → Type 0
-Ends store start input WriteFault written left = (end : RunEnd) × (texts : List (List ℕ)) × Makes store start input end texts left × IsCut texts written
-Ends store start input end written left = (texts : List (List ℕ)) × Makes store start input end texts left × (written ≡ concat texts)
+-- write failed at the last one that was made. Each text was written before the next line began: of each line that was
+-- run, this had been written then.
+abbrev pub Ends : {S : Type 0} → Ghosts S → Machine S → List ℕ → RunEnd → List ℕ → List (List ℕ) → List S → Type 0
+Ends store start input WriteFault written begun left = (end : RunEnd) × (texts : List (List ℕ)) × Makes store start input end texts left × IsCut texts written × (begun ≡ fronts texts)
+Ends store start input end written begun left = (texts : List (List ℕ)) × Makes store start input end texts left × (written ≡ concat texts) × (begun ≡ fronts texts)
 
 -- having made a last text to end as it says, a run ends so: the text was written, or a write failed
 abbrev pub Tells : RunEnd → List ℕ → RunEnd → List ℕ → Type 0

@@ -1,11 +1,12 @@
 //! What stays from one line of a script to the next.
 
-ghost use Rattle.std.specs.Prelude.{◌≡◌, ◌≤◌, ◌⊎◌, [], length, OnOk, OnErr};
+ghost use Rattle.std.specs.Prelude.{◌≡◌, ◌≤◌, ◌⊎◌, [], ◌∷◌, ◌++◌, length, OnOk, OnErr};
 ghost use Rattle.mac_base.specs.Heap.{new_heap};
 ghost use Rattle.mac_base.specs.ZoneSizes.{ZoneSizes, shape_of};
 ghost use Rattle.res_files.specs.Standing.{most_files};
 ghost use Rattle.script_run.specs.Line.{start_of, assigned, CallDoes, IsTooLong, IsUnmade, LineDoes, OpensFirst, SameForks, StopsAt};
 
+use crate::counted::Counted;
 use fork_disk::store::ForkStore;
 use mac_base::error::HostFull;
 use mac_base::zone_spec::ZoneSpec;
@@ -71,11 +72,18 @@ impl<S: ForkStore> Machine<S> {
     }
 
     /// Makes the call of a line and assigns its first result, or queues its answer, and puts what it prints in place of
-    /// the text.
-    pub fn run_line(&mut self, line: &Line<'_>, text: &mut ReplyText) -> Result<(), HostFull>
+    /// the text. That the line begins is noted beside what the writer has taken by then.
+    pub fn run_line<W>(
+        &mut self,
+        line: &Line<'_>,
+        text: &mut ReplyText,
+        writer: &mut Counted<W>,
+    ) -> Result<(), HostFull>
+        ensures begins { writer.new ≡ record writer.old { begun = writer.old.begun ++ writer.old.passed ∷ [] } }
         ensures does { OnOk result (LineDoes S.ForkStore self.old line.now text.new self.new) }
         ensures stops { OnErr result (StopsAt S.ForkStore self.old line.now.number line.now.statement self.new) }
     {
+        writer.begin();
         text.clear();
         match &line.statement {
             Statement::Call(call) => self.run_call(line.number, call, text),

@@ -4,7 +4,7 @@ ghost use Rattle.std.specs.Prelude.{◌≡◌, ◌≢◌, ◌≤◌, ◌⊎◌, 
 ghost use Rattle.script_text.specs.Script.{IsScript};
 ghost use Rattle.script_lang.specs.Text.{fault_text, no_memory_text};
 ghost use Rattle.res_files.specs.Standing.{most_files};
-ghost use Rattle.script_run.specs.Counting.{Gave, RoseByOne, Took};
+ghost use Rattle.script_run.specs.Counting.{Gave, RoseByOne, Took, begun_since};
 ghost use Rattle.script_run.specs.Exact.{RunsAgree};
 ghost use Rattle.script_run.specs.Headline.{RunShows};
 ghost use Rattle.script_run.specs.Line.{start_of};
@@ -38,9 +38,10 @@ pub fn run<S: ForkStore, R: Read, W: Write>(
 ) -> (RunEnd, Vec<S>)
     requires { length stores.items ≤ most_files }
     // The input is the bytes that the reader says it has; where it doesn't say, those that it gave. What was written is
-    // what the input's lines print from a new zone on, as far as the run came, and the stores are as they left them.
+    // what the input's lines print from a new zone on, as far as the run came, each line's before the next line began, and
+    // the stores are as they left them.
     ensures ends { (given : List ℕ) × (written : List ℕ) × Gave R.remaining reader.old given reader.new × Took W.contents writer.old written writer.new
-        × Ends S.ForkStore (start_of spec stores.items) (unwrap_or (R.remaining reader.old.inner) given) result.0 written result.1.items }
+        × Ends S.ForkStore (start_of spec stores.items) (unwrap_or (R.remaining reader.old.inner) given) result.0 written (begun_since writer.old writer.new) result.1.items }
 
     // Whatever lines print is the replies of calls over which every handle and pointer shows the bytes last put there,
     // pointers and locked handles stay where they are, and blocks are lost and memFullErr is given only where they may.
@@ -87,7 +88,7 @@ fn run_lines<S: ForkStore, W: Write>(
     writer: &mut Counted<W>,
 ) -> RunEnd
     ensures ends { (written : List ℕ) × Took W.contents writer.old written writer.new
-        × ((input : List ℕ) → IsScript input script.now → Ends S.ForkStore machine.old input result written (stores_of machine.new)) }
+        × ((input : List ℕ) → IsScript input script.now → Ends S.ForkStore machine.old input result written (begun_since writer.old writer.new) (stores_of machine.new)) }
     ensures no_read_fault { result ≢ RunEnd.ReadFault }
     ensures write_fault { result ≡ RunEnd.WriteFault → RoseByOne writer.old.failures writer.new.failures }
     ensures no_write_failed { result ≢ RunEnd.WriteFault → writer.new.failures ≡ writer.old.failures }
@@ -99,7 +100,7 @@ fn run_lines<S: ForkStore, W: Write>(
         return RunEnd::WriteFault;
     }
     for line in script {
-        let Ok(()) = machine.run_line(line, reply) else {
+        let Ok(()) = machine.run_line(line, reply, writer) else {
             return tell_no_memory(writer);
         };
         if !write_whole(writer, reply.as_slice()) {
@@ -112,6 +113,7 @@ fn run_lines<S: ForkStore, W: Write>(
 /// Writes why there is no script, and says how the run ended by that.
 fn tell_no_script<W: Write>(alloc: Global, writer: &mut Counted<W>, why: NoScript) -> RunEnd
     ensures ends { (written : List ℕ) × Took W.contents writer.old written writer.new × TellsNoScript why result written }
+    ensures begun { writer.new.begun ≡ writer.old.begun }
     ensures read_fault { (result ≡ RunEnd.ReadFault) ↔ (why ≡ NoScript.ReadFault) }
     ensures write_fault { result ≡ RunEnd.WriteFault → RoseByOne writer.old.failures writer.new.failures }
     ensures no_write_failed { result ≢ RunEnd.WriteFault → writer.new.failures ≡ writer.old.failures }
@@ -127,6 +129,7 @@ fn tell_no_script<W: Write>(alloc: Global, writer: &mut Counted<W>, why: NoScrip
 fn tell_fault<W: Write>(alloc: Global, writer: &mut Counted<W>, line: u32, wrong: Wrong) -> RunEnd
     ensures ends { (written : List ℕ) × Took W.contents writer.old written writer.new
         × (Tells (RunEnd.ScriptFault line wrong) (fault_text line) result written ⊎ Tells RunEnd.NoMemory no_memory_text result written) }
+    ensures begun { writer.new.begun ≡ writer.old.begun }
     ensures no_read_fault { result ≢ RunEnd.ReadFault }
     ensures write_fault { result ≡ RunEnd.WriteFault → RoseByOne writer.old.failures writer.new.failures }
     ensures no_write_failed { result ≢ RunEnd.WriteFault → writer.new.failures ≡ writer.old.failures }
@@ -145,6 +148,7 @@ fn tell_fault<W: Write>(alloc: Global, writer: &mut Counted<W>, line: u32, wrong
 pub fn tell_no_memory<W: Write>(writer: &mut Counted<W>) -> RunEnd
     ensures ends { (written : List ℕ) × Took W.contents writer.old written writer.new
         × Tells RunEnd.NoMemory no_memory_text result written }
+    ensures begun { writer.new.begun ≡ writer.old.begun }
     ensures no_read_fault { result ≢ RunEnd.ReadFault }
     ensures write_fault { result ≡ RunEnd.WriteFault → RoseByOne writer.old.failures writer.new.failures }
     ensures no_write_failed { result ≢ RunEnd.WriteFault → writer.new.failures ≡ writer.old.failures }

@@ -1,5 +1,5 @@
 -- The stores of a run that are files of the host: what is read of them, and when their devices are honest.
-use Rattle.std.specs.Prelude.{◌+◌, ⊤, []}
+use Rattle.std.specs.Prelude.{⊤, []}
 use Rattle.std.proofs.Common.{◌∙◌, ap}
 use Rattle.fork_disk.specs.Fork.{IsPartly}
 use Rattle.fork_disk.specs.Record as file
@@ -9,6 +9,7 @@ use Rattle.fork_disk.specs.declared.store.PlainStore.{PlainStore}
 use Rattle.fork_disk.specs.declared.world.World as world_of
 use Rattle.fork_journal.specs.Crash.{Event}
 use Rattle.fork_journal.specs.Files as pair
+use Rattle.fork_journal.specs.OnFiles.{IsHonestIn}
 use Rattle.fork_journal.specs.Recovery.{IsEither, IsReady, IsStable, MayFind, copied_length, settled_fork}
 use Rattle.fork_journal.specs.declared.file_pair.FilePair.{FilePair}
 use Rattle.fork_journal.specs.declared.journal.Journal.{Journal}
@@ -25,7 +26,7 @@ file_store world = record {
       file.IsStable (world.held disk.number) (world.may_leave disk.number) disk.log.events;
   is_honest = λ store. let disk = store.disk in
       file.IsHonest (world.held disk.number) (world.may_leave disk.number) disk.log.events;
-  failures = λ store. store.disk.file.failures;
+  failures = λ store. file.failed_calls store.disk.log.events;
   may_leave = IsPartly;
   has_journal = ⊥;
   Event = ⊤;
@@ -35,14 +36,14 @@ file_store world = record {
   ready_finds = λ store journalled. absurd journalled;
 }
 
--- A fork and its journal in two files of this world: both hold what it says after the calls on them, and are honest
--- where the answers of these calls are those of such files.
+-- A fork and its journal in two files of this world: both hold what it says after the calls on them. They are honest
+-- where both were synced once they were open, and the answers of these calls are those of such files.
 abbrev pub file_pair : {W : Type 0} (world : pair_world.Ghosts W) → pair_disk.Ghosts (FilePair W world)
 file_pair world = record {
   contents = λ files. world.held files.number files.log.events;
   history = λ files. pair.history_of (world.held files.number) files.log.events;
-  is_honest = λ files. pair.IsHonest (world.held files.number) files.log.events;
-  failures = λ files. files.fork.failures + files.journal.failures;
+  is_honest = λ files. IsHonestIn world files;
+  failures = λ files. file.failed_calls files.log.events;
 }
 
 -- A fork with a journal: it is the one that is there once the two files are recovered.

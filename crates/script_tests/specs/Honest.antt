@@ -1,5 +1,5 @@
 -- The premise of files can be met: in some world those that do what they answer, and answer what they hold, are honest.
-use Rattle.std.specs.Prelude.{ℕ, zero, suc, Bool, List, [], ◌∷◌, length, ◌≤◌, ⊤}
+use Rattle.std.specs.Prelude.{◌≡◌, ℕ, zero, suc, Bool, true, List, [], ◌∷◌, length, ◌≤◌, ⊤}
 use Rattle.fork_disk.proofs.Honest.{after, leaves, stepped, Tells}
 use Rattle.fork_disk.specs.Record.{Event, call_of, number_of, is_done}
 use Rattle.fork_disk.specs.declared.file_disk.FileDisk.{FileDisk}
@@ -50,7 +50,7 @@ AreBothTold first (e ∷ past) = AreBothTold first past
 abbrev pub faithful_pairs : (ℕ → Contents) → pair_world.Ghosts UnknownPair
 faithful_pairs first = record { held = λ number. both_after (first number) }
 
--- in that world a fork and its journal are honest after any calls whose answers say what they hold
+-- in that world a fork and its journal that were synced are honest after any calls whose answers say what they hold
 abbrev pub PairsCanBeHonest : Type 0
 PairsCanBeHonest = (first : ℕ → Contents) (files : FilePair UnknownPair (faithful_pairs first))
-    → AreBothTold (first files.number) files.log.events → (file_pair (faithful_pairs first)).is_honest files
+    → files.fork.was_synced ≡ true → files.journal.was_synced ≡ true → AreBothTold (first files.number) files.log.events → (file_pair (faithful_pairs first)).is_honest files

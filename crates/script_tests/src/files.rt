@@ -2,7 +2,7 @@
 
 ghost use Rattle.std.specs.Prelude.{◌≤◌, ℕ, List, length, unwrap_or};
 ghost use Rattle.res_files.specs.Standing.{most_files};
-ghost use Rattle.script_run.specs.Counting.{Gave, Took};
+ghost use Rattle.script_run.specs.Counting.{Gave, Took, begun_since};
 ghost use Rattle.script_run.specs.Exact.{RunsAgree};
 ghost use Rattle.script_run.specs.Headline.{RunShows};
 ghost use Rattle.script_run.specs.Line.{start_of};
@@ -30,7 +30,7 @@ pub fn run_over_files<W: World, R: Read, T: Write>(
 ) -> (RunEnd, Vec<PlainStore<FileDisk<W>>>)
     requires { length stores.items ≤ most_files }
     ensures ends { (given : List ℕ) × (written : List ℕ) × Gave R.remaining reader.old given reader.new × Took T.contents writer.old written writer.new
-        × Ends (file_store W.World) (start_of spec stores.items) (unwrap_or (R.remaining reader.old.inner) given) result.0 written result.1.items }
+        × Ends (file_store W.World) (start_of spec stores.items) (unwrap_or (R.remaining reader.old.inner) given) result.0 written (begun_since writer.old writer.new) result.1.items }
     ensures headline { RunShows (file_store W.World) }
     ensures recovers { RunRecovers (file_store W.World) }
     ensures exact { RunsAgree (file_store W.World) }
@@ -48,7 +48,7 @@ pub fn run_over_journalled_files<W: PairWorld, R: Read, T: Write>(
 ) -> (RunEnd, Vec<Journal<FilePair<W>>>)
     requires { length stores.items ≤ most_files }
     ensures ends { (given : List ℕ) × (written : List ℕ) × Gave R.remaining reader.old given reader.new × Took T.contents writer.old written writer.new
-        × Ends (journalled_store W.PairWorld) (start_of spec stores.items) (unwrap_or (R.remaining reader.old.inner) given) result.0 written result.1.items }
+        × Ends (journalled_store W.PairWorld) (start_of spec stores.items) (unwrap_or (R.remaining reader.old.inner) given) result.0 written (begun_since writer.old writer.new) result.1.items }
     ensures headline { RunShows (journalled_store W.PairWorld) }
     ensures recovers { RunRecovers (journalled_store W.PairWorld) }
     ensures exact { RunsAgree (journalled_store W.PairWorld) }

@@ -3,7 +3,7 @@ use Rattle.script_run.proofs.Opening.{on_fault, on_fault_of}
 use Rattle.script_run.proofs.machine.Machine.run_call.Goals as goal
 
 pub returns-in_err-reply-clause-stops : goal.returns-in_err-reply-clause-stops
-returns-in_err-reply-clause-stops g c = on_fault c.from_residual.result (inl (rw c.resolve-call.ensures at c.in_err-reply.ensures.unchanged, rw c.resolve-call.ensures at c.in_err-reply.ensures.full))
+returns-in_err-reply-clause-stops g c = on_fault c.from_residual.result (inl (rw c.resolve-call.ensures at c.in_err-reply.ensures.unchanged, rw c.resolve-call.ensures at c.in_err-reply.ensures.full, rw c.resolve-call.ensures at c.in_err-reply.ensures.late))
 
 pub returns-clause-stops : goal.returns-clause-stops
 returns-clause-stops g c =
