@@ -19,4 +19,3 @@ pub mod FlagsTaken
 pub mod PurgeSteps
 pub mod NoPurges
 pub mod Asked
-pub mod FewerFull

@@ -1,5 +1,5 @@
 -- Where there is none to purge, a call purges nothing.
-use Rattle.std.proofs.Common.{◌≡◌, ℕ, ◌-◌, ◌<◌, Bool, true, false, cond, List, [], ◌∷◌, length, Option, Some, None, refl, ap, sym, ◌∙◌, subst, inl, inr, arith}
+use Rattle.std.proofs.Common.{◌≡◌, ℕ, ◌<◌, Bool, true, false, List, [], ◌∷◌, length, Option, Some, None, refl, ap, sym, ◌∙◌, subst, inl, inr, arith}
 use Rattle.std.specs.Prelude.{◌⊎◌, ◌&&◌, ◌||◌, ◌==◌, nat_le}
 use Rattle.std.specs.List.{slice_get}
 use Rattle.std.specs.Option.{option_map}
@@ -17,10 +17,10 @@ use Rattle.mac_base.specs.declared.memory_call.FillingCall.TheVariants.{HandToHa
 use Rattle.mac_base.specs.declared.memory_call.ZoneCall.TheVariants.{CompactMem, PurgeMem, MaxMem, PurgeSpace, MaxBlock, FreeMem, MaxApplZone}
 use Rattle.mac_base.specs.Attempt.{attempted}
 use Rattle.mac_base.specs.Effect.{effect_of, request_of, table_copied}
-use Rattle.mac_base.specs.ExactRequest.{Ending, prepared, request_run}
-use Rattle.mac_base.specs.ExactStep.{after_master, exact_step, rearranged, request_end, request_step, step_asking, step_unless}
-use Rattle.mac_base.specs.GrowZone.{Ask, Carried, carried_out, most_answers}
-use Rattle.mac_base.specs.HandleTable.{EmptyHandle, FullHandle, HandleTable, Pointer, has_block, live_at, live_full, live_pointer, no_flags, zeros, resized, bytes_of}
+use Rattle.mac_base.specs.ExactRequest.{Ending, request_run}
+use Rattle.mac_base.specs.ExactStep.{after_master, rearranged, request_end, request_step, step_asking, step_unless}
+use Rattle.mac_base.specs.GrowZone.{Ask, carried_out, most_answers}
+use Rattle.mac_base.specs.HandleTable.{EmptyHandle, FullHandle, HandleTable, Pointer, has_block, live_full, live_pointer, no_flags, zeros, resized, bytes_of}
 use Rattle.mac_base.specs.HeadKind.{Shape}
 use Rattle.mac_base.specs.Heap.{Heap, front_slot, granted, has_none, table_granted, with_all_emptied}
 use Rattle.mac_base.specs.Releasing.{heap_released, operand_of}
@@ -35,7 +35,7 @@ use Rattle.zone_laws.proofs.RunAnswers.{last, trial}
 use Rattle.zone_laws.proofs.ServedRequests.{front_slot-not_live}
 use Rattle.zone_laws.proofs.SoundServed.{sound-serve}
 use Rattle.zone_laws.proofs.StepPermitted.{slot-free}
-use Rattle.zone_heap.specs.NextPurge.{BeforePurge, before_purge, grown_for, next_of_all, next_to}
+use Rattle.zone_heap.specs.NextPurge.{BeforePurge, before_purge, grown_for}
 use Rattle.mem_calls.specs.Purges.{NoneIsPurged, before_after, before_asking, before_quiet, before_request, before_unless, frees}
 use Rattle.mem_calls.proofs.PurgeSteps.{first-none, master-slots, prepared-none, slots-ready, sound-ready, table-ready}
 

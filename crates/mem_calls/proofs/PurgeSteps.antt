@@ -1,9 +1,8 @@
 -- A call purges as if each handle were emptied before it.
-use Rattle.std.proofs.Common.{◌≡◌, ℕ, suc, ◌+◌, ◌-◌, Bool, true, false, not, cond, eqb, List, [], ◌∷◌, ◌++◌, length, Option, Some, None, Ok, refl, ap, sym, ◌∙◌, subst, inl, inr, arith, append-nil}
+use Rattle.std.proofs.Common.{◌≡◌, ℕ, suc, ◌+◌, ◌-◌, Bool, true, false, cond, List, [], ◌∷◌, ◌++◌, Option, Some, None, Ok, refl, ap, sym, ◌∙◌, subst, inl, inr, arith, append-nil}
 use Rattle.std.specs.Prelude.{◌⊎◌, ◌&&◌, ◌==◌, ◌||◌, IsTrue, is_some, nat_le}
 use Rattle.std.specs.List.{slice_get}
 use Rattle.std.proofs.lemmas.Bool.{eqb-true, true≢false}
-use Rattle.std.proofs.lemmas.Bool.Decides.{nat_tests}
 use Rattle.mac_base.specs.declared.error.OsErr.{OsErr}
 use Rattle.mac_base.specs.declared.request.Request.{Request}
 use Rattle.mac_base.specs.declared.request.Request.TheVariants.{NewEmpty, NewMaster}
@@ -16,7 +15,7 @@ use Rattle.mac_base.specs.Attempt.{attempted}
 use Rattle.mac_base.specs.Compaction.{all_down}
 use Rattle.mac_base.specs.Effect.{request_of, table_copied, effect_of}
 use Rattle.mac_base.specs.ExactRequest.{Ending, prepared, request_run}
-use Rattle.mac_base.specs.ExactStep.{StepEnd, after_master, exact_step, heap_after, quiet_outcome, rearranged, request_end, request_step, step_asking, step_unless}
+use Rattle.mac_base.specs.ExactStep.{StepEnd, after_master, exact_step, quiet_outcome, rearranged, request_end, request_step, step_asking, step_unless}
 use Rattle.mac_base.specs.GrowZone.{Answer, Ask, carried_out, most_answers}
 use Rattle.mac_base.specs.HandleTable.{EmptyHandle, HandleTable, emptied, is_handle, is_lent, is_locked, is_pointer, live_at}
 use Rattle.mac_base.specs.HeadKind.{Shape, zone_header}
@@ -31,7 +30,7 @@ use Rattle.mac_base.specs.Sound.{Sound}
 use Rattle.mac_base.specs.Suits.{slots_from}
 use Rattle.mac_base.specs.Tests.{protected_by, refusal}
 use Rattle.mac_base.specs.ZoneMap.{ZoneMap, free_block, joined, largest_free, released, total_size}
-use Rattle.zone_laws.proofs.Emptied.{IsCandidate, purged_until-none}
+use Rattle.zone_laws.proofs.Emptied.{IsCandidate}
 use Rattle.zone_laws.proofs.Joined.{joined-apart}
 use Rattle.zone_laws.proofs.Operands.{Kept, SameCall, kept-then, same-call}
 use Rattle.zone_laws.proofs.RunAnswers.{last, once, trial}
@@ -425,10 +424,6 @@ exact-unless s call heap None sound is = exact-asking s call heap (request_of he
 exact-before : (s : Shape) (call : MemoryCall) (heap : Heap) → Sound s heap → Exact s call heap (before_call s heap call)
 exact-before s call heap sound = exact-unless s call heap (refusal s heap call) sound refl
 
--- the table is as it was just before a call purges
-pub before-table : (s : Shape) (call : MemoryCall) (heap : Heap) → Sound s heap → (before_call s heap call).heap.table ≡ heap.table
-before-table s call heap sound = (exact-before s call heap sound).table
-
 pub ready_is_exact : ReadyIsExact
 ready_is_exact s answers heap call sound = (exact-before s call heap sound).ready answers
 
@@ -460,20 +455,20 @@ module _ (s : Shape) (call : MemoryCall) (heap : Heap) (h : ℕ) (sound : Sound 
   abbrev before : BeforePurge
   before = before_call s heap call
 
-  pub candidate-next : IsCandidate before.heap.table [] h
+  candidate-next : IsCandidate before.heap.table [] h
   candidate-next = (exact-before s call heap sound).candidate h some
 
   -- it is emptied so
-  pub emptied-is : exact_step s [] before.heap (OnBlock (EmptyHandleCall h)) ≡ record { outcome = Ok Nothing; heap = with_emptied before.heap h; asks = []; left = [] }
+  emptied-is : exact_step s [] before.heap (OnBlock (EmptyHandleCall h)) ≡ record { outcome = Ok Nothing; heap = with_emptied before.heap h; asks = []; left = [] }
   emptied-is = empty-step s before.heap h (exact-before s call heap sound).sound (fixed-before s call heap sound fixed) candidate-next
 
-  pub emptied-exact : (answers : List Answer) → exact_step s answers (with_emptied before.heap h) call ≡ exact_step s answers heap call
+  emptied-exact : (answers : List Answer) → exact_step s answers (with_emptied before.heap h) call ≡ exact_step s answers heap call
   emptied-exact answers = (exact-before s call heap sound).emptied h some answers
 
-  pub emptied-sound : Sound s (with_emptied before.heap h)
+  emptied-sound : Sound s (with_emptied before.heap h)
   emptied-sound = sound-emptied s before.heap h (exact-before s call heap sound).sound candidate-next.may.handle
 
-  pub emptied-fixed : LoansAreFixed (with_emptied before.heap h)
+  emptied-fixed : LoansAreFixed (with_emptied before.heap h)
   emptied-fixed = fixed-emptied before.heap h candidate-next (fixed-before s call heap sound fixed)
 
 pub emptied_is_exact : EmptiedIsExact

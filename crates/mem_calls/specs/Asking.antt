@@ -1,11 +1,9 @@
 -- What a call that isn't refused asks for.
-use Rattle.std.specs.Prelude.{◌≡◌, ℕ, List, [], ◌∷◌, Some, IsTrue}
+use Rattle.std.specs.Prelude.{◌≡◌, ℕ, List, [], ◌∷◌, Some}
 use Rattle.mac_base.specs.declared.memory_call.MemoryCall.{MemoryCall}
 use Rattle.mac_base.specs.Effect.{request_of}
 use Rattle.mac_base.specs.Tests.{protected_by}
 use Rattle.mac_base.specs.ZoneState.{ZoneState}
-use Rattle.zone_heap.specs.Attempts.{CanAsk}
-use Rattle.zone_heap.specs.Purge.{is_protected}
 use Rattle.mem_calls.specs.declared.purges.Asking.{Asking}
 use Rattle.mem_calls.specs.declared.purges.Guarded.{Guarded}
 use Rattle.mem_calls.specs.declared.purges.Guarded.TheVariants.{Nothing, One, Two}

@@ -1,4 +1,4 @@
-use Rattle.std.proofs.Common.{◌≡◌, ◌∙◌, None, ap, sym}
+use Rattle.std.proofs.Common.{◌∙◌, ap, sym}
 use Rattle.mac_base.specs.Tests.{refusal}
 use Rattle.mac_base.specs.ZoneState.{with_heap}
 use Rattle.mac_base.specs.declared.memory_call.MemoryCall.TheVariants.{Requesting}
