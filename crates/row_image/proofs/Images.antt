@@ -7,14 +7,12 @@ use Rattle.std.proofs.lemmas.List.{append_assoc, length-map}
 use Rattle.std.proofs.lemmas.Option.{get_or_from_slice_get, slice_get_within}
 use Rattle.fork_bytes.specs.declared.place.Place.{Place}
 use Rattle.fork_bytes.specs.declared.table.Table.{Table}
-use Rattle.fork_bytes.specs.declared.fault.ForkFault.{ForkFault}
-use Rattle.fork_bytes.specs.declared.fault.ForkFault.TheVariants.{EndOfFile, BadMap, HostFull}
 use Rattle.fork_bytes.specs.declared.fault.Condition.TheVariants.{RowCount}
 use Rattle.fork_bytes.specs.declared.layout.TypeCount.{TypeCount}
 use Rattle.fork_bytes.specs.Laws.{IsGrouped}
 use Rattle.fork_bytes.specs.Rows as fork
 use Rattle.fork_bytes.proofs.Steps.{drop_item, each_step}
-use Rattle.fork_bytes.specs.Fork.{StandsFor, Refuses, max_rows, references_of, map_of, map_rows, data_of, row_with, map_row}
+use Rattle.fork_bytes.specs.Fork.{StandsFor, max_rows, references_of, map_of, map_rows, data_of, row_with, map_row}
 use Rattle.fork_bytes.specs.Written.{types_of, counted_before, plain_row, plain_rows}
 use Rattle.res_table.specs.declared.row.Row.{Row}
 use Rattle.res_table.specs.declared.chain.ResourceTable.{ResourceTable}
@@ -79,13 +77,7 @@ pub types_info : (rows : List (Row Place)) → types_of (plain_rows info_text (m
 types_info [] = refl
 types_info (r ∷ rows) = ap (counted_before r.resource.kind 1) (types_info rows)
 
--- a fork that stands for a table is refused only where the host has no memory
-pub only_host : (bytes : List ℕ) (table : Table) (fault : ForkFault) → StandsFor bytes table → Refuses bytes fault → fault ≡ HostFull
-only_host bytes table EndOfFile stands refused = let long = stands.0.header in absurd (omega (arith, long, refused))
-only_host bytes table (BadMap condition) stands refused = absurd (refused.1.fails (stands.0.holds condition))
-only_host bytes table HostFull stands refused = refl
-
--- it has not too many rows
+-- a fork that is read has not too many rows
 pub few_rows : (bytes : List ℕ) (table : Table) → StandsFor bytes table → length table.rows ≤ max_rows
 few_rows bytes table stands =
     let few = stands.0.holds RowCount in

@@ -60,8 +60,3 @@ current_open disks s chain stands same = by s.current stands.current
     by (Some k) there =
         subst (λ (found : Option ℕ). IfSome found (λ n. IsTrue (is_open n chain))) (sym (byte_again k (open_from_one disks k s.files stands.each there)))
         (ap (list_any (is_numbered k)) same ∙ there)
-
--- files stand whichever of them is the current one
-pub stand_used : (disks : List Disk) (current : Option ℕ) (chain : OpenFiles Place) → StandOnForks disks chain → IfSome current (λ k. IsTrue (is_open k chain)) → StandOnForks disks (used current chain)
-stand_used disks None chain stands there = stands
-stand_used disks (Some k) chain stands there = record { few = stands.few; each = stands.each; apart = stands.apart; current = there }

@@ -1,4 +1,4 @@
--- Files that stand on their forks are opened one after the other.
+-- Files on their forks are opened one after the other.
 use Rattle.std.proofs.Common.{◌≡◌, ℕ, zero, suc, ◌+◌, ◌-◌, ◌<◌, ◌≤◌, Bool, true, false, ◌||◌, List, [], ◌∷◌, ◌++◌, length, map, get_or, slice_get, drop, unwrap_or, Option, None, Some, IfSome, refl, sym, subst, ap, ◌∙◌, append_assoc, arith}
 use Rattle.std.specs.Prelude.{⊤}
 use Rattle.std.specs.List.{AllByRecursion, flat_map, list_any}
@@ -20,7 +20,6 @@ use Rattle.res_update.specs.Device.{Disk}
 use Rattle.res_update.specs.Placed.{Holds}
 use Rattle.res_files.specs.Standing.{AreApart, StandsOn, fork_at}
 use Rattle.res_files.proofs.Stands.{stand_opened}
-use Rattle.row_image.specs.Images.{IsGroupedFile}
 use Rattle.saved_files.specs.Parts.{CanOpen}
 use Rattle.saved_files.specs.Saved.{block_text}
 use Rattle.saved_files.specs.Sound.{StandOnForks, disk_of}
@@ -72,7 +71,7 @@ there_fork disks n P holds = by (slice_get disks (n - 1)) holds
     by None holds = tt
     by (Some x) holds = holds
 
--- a file that stands among others can be opened after those before it
+-- a file among others on their forks can be opened after those before it
 pub can_open : (disks : List Disk) (want : OpenFiles Place) (before after : List (OpenFile Place)) (f : OpenFile Place) (chain : OpenFiles Place)
     → StandOnForks disks want → want.files ≡ before ++ f ∷ after → chain.files ≡ before → CanOpen disks chain f.number f.table
 can_open disks want before after f chain stands all now =
@@ -88,7 +87,7 @@ can_open disks want before after f chain stands all now =
       near = one.small.near;
     }
 
--- files stand with one more that can be opened
+-- files are on their forks with one more that can be opened
 pub stand_more : (disks : List Disk) (number : ℕ) (table : ResourceTable Place) (chain : OpenFiles Place) → CanOpen disks chain number table → length table.rows ≤ max_rows → IsGrouped (bare table.rows)
     → StandOnForks disks chain → StandOnForks disks (file_opened number table chain)
 stand_more disks number table chain can few grouped stands =
@@ -96,14 +95,6 @@ stand_more disks number table chain can few grouped stands =
     (record { few = few; grouped = grouped; near = can.near })
     (there_fork disks number (Holds (λ (fork : Disk). fork) (λ _. ⊤) (λ _. ⊤) table.rows) (λ _. (tt, can.inside)))
     stands
-
--- rows of files that stand are together by their types
-pub grouped_files : (disks : List Disk) (chain : OpenFiles Place) → StandOnForks disks chain → AllByRecursion IsGroupedFile chain.files
-grouped_files disks chain stands = by chain.files stands.each
-  where
-    by : (files : List (OpenFile Place)) → AllByRecursion (StandsOn (λ (fork : Disk). fork) (λ _. ⊤) (λ _. ⊤) disks) files → AllByRecursion IsGroupedFile files
-    by [] each = tt
-    by (f ∷ files) each = (each.0.small.grouped, by files each.1)
 
 -- an element of which something doesn't hold
 pub all_at : {X : Type 0} (P : X → Type 0) (xs : List X) (i : ℕ) (d : X) → i < length xs → AllByRecursion P xs → P (get_or xs i d)
@@ -137,10 +128,4 @@ fork_more made disks i fork within is so_far =
     append_assoc made (fork ∷ []) (drop (i + 1) disks)
     ∙ ap (λ (x : Disk). made ++ x ∷ drop (i + 1) disks) is
     ∙ ap (λ (rest : List Disk). made ++ rest) (sym (drop_more disks i [] within))
-    ∙ so_far
-
-pub file_more : (made files : List (OpenFile Place)) (i : ℕ) (f : OpenFile Place) → i < length files → f ≡ get_or files i f → made ++ drop i files ≡ files → (made ++ f ∷ []) ++ drop (i + 1) files ≡ files
-file_more made files i f within is so_far =
-    append_assoc made (f ∷ []) (drop (i + 1) files)
-    ∙ ap (λ (rest : List (OpenFile Place)). made ++ rest) (sym (drop_item files i f within is))
     ∙ so_far

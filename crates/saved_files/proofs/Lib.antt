@@ -1,5 +1,4 @@
 pub mod Files
-pub mod Standing
 pub mod Chains
 pub mod Faults
 pub mod Turns

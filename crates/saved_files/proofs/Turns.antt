@@ -71,6 +71,6 @@ opened_more want chain i n table f mid number same =
     ∙ append_assoc chain.files (f ∷ []) rest
     ∙ sym mid
 
--- no file stands on any forks
+-- no file is on any forks
 pub stand_none : (disks : List Disk) → length disks ≤ most_files → StandOnForks disks no_files
 stand_none disks few = record { few = few; each = tt; apart = tt; current = tt }

@@ -1,12 +1,11 @@
-use Rattle.std.proofs.Common.{◌≡◌, ℕ, List, map, sym, subst, ap, ◌∙◌}
+use Rattle.std.proofs.Common.{◌≡◌, ℕ, List, sym, subst, ap, ◌∙◌}
 use Rattle.fork_bytes.specs.declared.table.Table.{Table}
 use Rattle.fork_bytes.specs.Fork.{StandsFor}
-use Rattle.fork_bytes.specs.Rows as fork
 use Rattle.fork_bytes.specs.Written.{plain_rows, plain_table, types_of, written, IsTooBig}
 use Rattle.mac_base.specs.declared.resource.Resource.{Resource}
 use Rattle.res_table.specs.Saved.{bare}
 use Rattle.row_image.specs.declared.info.RowInfo.{RowInfo}
-use Rattle.row_image.specs.Infos.{image_text, info_resource, info_table, info_text}
+use Rattle.row_image.specs.Infos.{image_text, info_table, info_text}
 use Rattle.row_image.proofs.Images.{grouped_by, types_info}
 use Rattle.row_image.proofs.image.image_of.Goals as goal
 

@@ -1,4 +1,4 @@
-use Rattle.std.proofs.Common.{◌++◌, ◌∷◌, [], List, map, ap, ◌∙◌}
+use Rattle.std.proofs.Common.{◌++◌, ◌∷◌, [], map, ap, ◌∙◌}
 use Rattle.mac_base.specs.declared.resource.Resource.{Resource}
 use Rattle.row_image.specs.declared.info.RowInfo.{RowInfo}
 use Rattle.row_image.specs.Infos.{info_resource}

@@ -1,8 +1,8 @@
-use Rattle.std.proofs.Common.{◌≡◌, ◌<◌, List, length, ap, ◌∙◌, arith}
+use Rattle.std.proofs.Common.{List, length, ap, ◌∙◌, arith}
 use Rattle.fork_bytes.specs.declared.place.Place.{Place}
 use Rattle.res_table.specs.declared.row.Row.{Row}
 use Rattle.res_table.specs.Rows.{changed_at, with_attributes, with_handle}
-use Rattle.row_image.proofs.Restored.{restored, all_restored, length-restored, long_changed, next_restored}
+use Rattle.row_image.proofs.Restored.{all_restored, length-restored, long_changed, next_restored}
 use Rattle.row_image.proofs.image.restore.Goals as goal
 
 pub set_attributes-requires : goal.set_attributes-requires

@@ -1,4 +1,4 @@
-use Rattle.std.proofs.Common.{◌≡◌, List, Some, length, map, sym, subst, ap, ◌∙◌, arith, refl}
+use Rattle.std.proofs.Common.{◌≡◌, List, Some, length, map, sym, ap, ◌∙◌, arith, refl}
 use Rattle.fork_bytes.specs.declared.place.Place.{Place}
 use Rattle.fork_bytes.specs.Fork.{macheap_limits}
 use Rattle.fork_bytes.specs.Rows as fork
