@@ -6,7 +6,9 @@ pub mod Keeping
 pub mod NilFlags
 pub mod Lendable
 pub mod LentAgain
+pub mod InTurns
 pub mod Made
+pub mod Noted
 pub mod SaveStates
 pub mod Sleeping
 mod Settled

@@ -5,6 +5,8 @@ pub mod Fields
 pub mod Held
 pub mod KeptFlags
 pub mod NilFlags
+pub mod Purges
 pub mod Repairing
 pub mod State
 pub mod Told
+pub mod InTurn
