@@ -3,3 +3,4 @@ pub mod Chains
 pub mod Faults
 pub mod Turns
 pub mod Said
+pub mod Standing
