@@ -2,7 +2,7 @@
 
 ghost use Rattle.std.specs.Prelude.{◌≡◌, IfErr, IfOk, IfSome, Ok, string_bytes, true};
 ghost use Rattle.resfork.specs.Acts.{KeepsQuiet};
-ghost use Rattle.resfork.specs.Changing.{Becomes, Changes, ChangesFile, ChangesHeld, ChangesInto, ChangesPlace, Creates, Replaces, Says, SaysAfter, WritesAndSays, WritesOutput};
+ghost use Rattle.resfork.specs.Changing.{Becomes, Changes, ChangesFile, ChangesHeld, ChangesInto, ChangesPlace, Creates, RenewsBy, Replaces, Says, SaysAfter, WritesAndSays, WritesOutput};
 ghost use Rattle.resfork.specs.Problems.{IsIdle, IsNotSaved, written_file};
 
 use crate::acts::Acts;
@@ -99,8 +99,24 @@ fn change_held(
     ensures changes { ChangesHeld target.now held from.now edit.entry result acts.old.events acts.new.events }
 {
     let old = read_held(host, held.file(), acts)?;
-    match changed_of(host, &old, from, edit)? {
-        Some(changed) => replace(host, target, held, &old, &changed, acts),
+    renew_by(host, target, held, &old, (from, edit), acts)
+}
+
+/// Changes a file that is held and has these bytes, by an edit to which resources are copied from these rows.
+fn renew_by(
+    host: &Host<'_>,
+    target: &Target<'_>,
+    held: Held,
+    old: &[u8],
+    change: (&[Row<'_>], Edit<'_>),
+    acts: &mut Acts,
+) -> Result<u8, Problem>
+    ensures done { IfOk result (λ status. status ≡ DONE) }
+    ensures changes { RenewsBy target.now held old.now change.entry.0.now change.entry.1 result acts.old.events acts.new.events }
+{
+    let (from, edit) = change;
+    match changed_of(host, old, from, edit)? {
+        Some(changed) => replace(host, target, held, old, &changed, acts),
         None => Ok(DONE),
     }
 }
