@@ -1,7 +1,5 @@
-use Rattle.std.proofs.Common.{rules, subst, take, take_all, List, ℕ}
-use Rattle.std.specs.Borrow.{Bor}
+use Rattle.std.proofs.Common.{rules, take, take_all}
 use Rattle.std.proofs.lemmas.List.{map_more}
-use Rattle.fork_words.specs.Given.{texts_of}
 use Rattle.resfork.specs.Showing.{Each, at_first, and_next}
 use Rattle.resfork.proofs.show_all.Goals as goal
 
@@ -17,4 +15,4 @@ loop-file-preserved g c = let h = c.loop-file.invariant in record {
 }
 
 pub returns-clause-shows : goal.returns-clause-shows
-returns-clause-shows g c = subst (λ (xs : List (Bor (List ℕ))). Each _ _ (texts_of xs) _ _) (take_all _ _ c.loop-file-test.false) c.loop-file.invariant.each
+returns-clause-shows g c = let h = c.loop-file.invariant.each in rw (take_all c.loop-file.file-index c.args.asked.now.files.items c.loop-file-test.false) at h
