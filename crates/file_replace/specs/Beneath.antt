@@ -1,11 +1,17 @@
 -- By which calls of the system a path of the host does what it is asked for. The newest call comes first.
-use Rattle.std.specs.Prelude.{◌≡◌, ⊤, Bool, true, false, List, ℕ, ◌∷◌, Option, Some, None, Result, Ok, Err, IsErr, is_ok}
-use Rattle.host_paths.specs.Asked.{LeadsTo, Log}
+use Rattle.std.specs.Prelude.{◌≡◌, ⊤, Bool, true, false, List, ℕ, [], ◌∷◌, Option, Some, None, Result, Ok, Err, IsErr, is_ok}
+use Rattle.std.specs.declared.fs.File.{File}
+use Rattle.host_paths.specs.Asked.{LeadsTo, Log, folder_name}
 use Rattle.host_paths.specs.Made.{MakesBeside, RemovesAt, path_of}
 use Rattle.host_paths.specs.declared.beside.Beside.{Beside}
 use Rattle.host_paths.specs.declared.host.Answer.{Answer}
 use Rattle.host_paths.specs.declared.host.Answer.TheVariants.{Is, Nothing, Failed}
-use Rattle.host_paths.specs.declared.host.HostCall.TheVariants.{At, Rename}
+use Rattle.host_paths.specs.declared.host.HostCall.TheVariants.{At, Open, Rename, Sync}
+use Rattle.host_paths.specs.declared.host.Access.TheVariants.{Read}
+use Rattle.host_paths.specs.declared.host.Syncing.{Syncing}
+use Rattle.host_paths.specs.declared.host.Syncing.TheVariants as answers
+use Rattle.file_replace.specs.declared.place.FolderSync.{FolderSync}
+use Rattle.file_replace.specs.declared.place.FolderSync.TheVariants as syncs
 use Rattle.file_replace.specs.declared.host_place.There.{There}
 use Rattle.file_replace.specs.declared.host_place.There.TheVariants as places
 
@@ -36,3 +42,18 @@ RenamesIt (Some beside) path result old new = new ≡ Rename (path_of beside) pa
 abbrev pub RemovesIt : {T E : Type 0} → Option Beside → Result T E → Log → Log → Type 0
 RemovesIt None result old new = new ≡ old
 RemovesIt (Some beside) result old new = RemovesAt (path_of beside) result old new
+
+-- the folder of a path was to be opened, to be read, before any other call
+abbrev pub OpensFolder : List ℕ → Option File → Log → Type 0
+OpensFolder path folder new = new ≡ Open Read (folder_name path) folder ∷ []
+
+-- what the system answered where a folder was to be synced
+abbrev pub folder_answer : {E : Type 0} → Result FolderSync E → Option Syncing
+folder_answer (Ok syncs.Done) = Some answers.Done
+folder_answer (Ok syncs.NotOffered) = Some answers.NotOffered
+folder_answer (Err error) = None
+
+-- a folder was to be synced, if it could be opened; else nothing is offered
+abbrev pub SyncsFolder : {E : Type 0} → Option File → Result FolderSync E → Log → Log → Type 0
+SyncsFolder None result old new = (result ≡ Ok syncs.NotOffered) × (new ≡ old)
+SyncsFolder (Some folder) result old new = new ≡ Sync folder (folder_answer result) ∷ old

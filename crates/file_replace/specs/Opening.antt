@@ -5,6 +5,7 @@ use Rattle.std.specs.Global.{Global}
 use Rattle.std.specs.declared.fs.File.{File}
 use Rattle.std.specs.declared.path.buf.PathBuf.{PathBuf}
 use Rattle.host_paths.specs.Asked.{Log, is_regular, same_file}
+use Rattle.host_paths.specs.Following.{Follows}
 use Rattle.host_paths.specs.declared.host.Access.TheVariants.{Both, Write}
 use Rattle.host_paths.specs.declared.host.Answer.TheVariants.{Is, Nothing}
 use Rattle.host_paths.specs.declared.host.Found.{Found}
@@ -48,13 +49,14 @@ abbrev pub IsOwn : Held → PathBuf Global → File → Found → Log → Log �
 IsOwn held path file found old new = (here : Found) × (there : Found) × (is_one found here there ≡ true)
     × (held ≡ record { file = file; path = path; rights = rights_of here; names = here.names }) × (new ≡ At (path_buf_bytes path) (Is there) ∷ Of file (Is here) ∷ old)
 
--- it was opened to be read and written, locked, and is the one that was found
-abbrev pub Holds : Held → Found → Log → Log → Type 0
-Holds held found old new = (mid : Log) × IsLocked held.file (Open Both (path_buf_bytes held.path) (Some held.file) ∷ old) mid × IsOwn held held.path held.file found mid new
+-- the file that a path leads to over links was opened to be read and written, locked, and is the one that was found
+abbrev pub Holds : List ℕ → Held → Found → Log → Log → Type 0
+Holds path held found old new = (followed : Log) × (mid : Log) × Follows path (path_buf_bytes held.path) old followed
+    × IsLocked held.file (Open Both (path_buf_bytes held.path) (Some held.file) ∷ followed) mid × IsOwn held held.path held.file found mid new
 
 -- a path was asked for, and the regular file that it led to is held
 abbrev pub OpensHeld : List ℕ → Result Held NotReplaced → Log → Type 0
-OpensHeld path (Ok held) new = (found : Found) × (is_regular found.kind ≡ true) × Holds held found (Over path (Is found) ∷ []) new
+OpensHeld path (Ok held) new = (found : Found) × (is_regular found.kind ≡ true) × Holds path held found (Over path (Is found) ∷ []) new
 OpensHeld path (Err refusal) new = IsUnopened refusal
 
 -- what was opened isn't a regular file
@@ -63,12 +65,12 @@ IsStream path file old new = (here : Found) × (is_regular here.kind ≡ false) 
 
 -- what was found at a path was opened
 abbrev pub IsOpened : List ℕ → Found → Destination → Log → Log → Type 0
-IsOpened path found (destinations.Existing held) old new = (is_regular found.kind ≡ true) × Holds held found old new
+IsOpened path found (destinations.Existing held) old new = (is_regular found.kind ≡ true) × Holds path held found old new
 IsOpened path found (destinations.Stream stream) old new = (is_regular found.kind ≡ false) × IsStream path stream.file old new
 IsOpened path found (destinations.New it) old new = ⊥
 
--- a path was asked for, and it is open as what it led to, or it has nothing
+-- a path was asked for, and it is open as what it led to; or it leads to nothing, over links, at this path
 abbrev pub OpensAs : List ℕ → Result Destination NotReplaced → Log → Type 0
-OpensAs path (Ok (destinations.New it)) new = new ≡ Over path Nothing ∷ []
+OpensAs path (Ok (destinations.New it)) new = Follows path (path_buf_bytes it.path) (Over path Nothing ∷ []) new
 OpensAs path (Ok destination) new = (found : Found) × IsOpened path found destination (Over path (Is found) ∷ []) new
 OpensAs path (Err refusal) new = IsUnopened refusal

@@ -12,7 +12,7 @@ use crate::host_place::There;
 use crate::prepared::{NewFile, Prepared, Stream, put_over};
 use crate::told::NotReplaced;
 use crate::world::FolderWorld;
-use host_paths::{Access, Found, HostCalls, followed, found_of, found_over, open};
+use host_paths::{Access, Found, HostCalls, follow, found_of, found_over, open};
 use std::alloc::AllocError;
 use std::fs::File;
 use std::path::PathBuf;
@@ -83,7 +83,7 @@ impl Destination {
     {
         match found_over(rt, path, asked) {
             Ok(Some(found)) => Destination::open_found(rt, path, &found, asked),
-            Ok(None) => match followed(rt, path) {
+            Ok(None) => match follow(rt, path, asked) {
                 Ok(path) => Ok(Destination::New(NewPath { path })),
                 Err(error) => Err(unopened(error)),
             },

@@ -7,7 +7,7 @@ use crate::calls::{HeldCalls, note_asked};
 use crate::rights::{Owner, Rights};
 use crate::told::NotReplaced;
 use host_paths::{
-    Access, Found, HostCalls, Locking, followed, found_at, found_of, found_over, lock, open,
+    Access, Found, HostCalls, Locking, follow, found_at, found_of, found_over, lock, open,
 };
 use std::fs::File;
 use std::io;
@@ -98,10 +98,10 @@ impl Held {
         found: &Found,
         asked: &mut HostCalls,
     ) -> Result<Held, NotReplaced>
-        ensures holds { IfOk result (λ held. Holds held found.now asked.old.events asked.new.events) }
+        ensures holds { IfOk result (λ held. Holds path.now held found.now asked.old.events asked.new.events) }
         ensures refuses { IfErr result IsUnopened }
     {
-        let path = match followed(rt, path) {
+        let path = match follow(rt, path, asked) {
             Ok(path) => path,
             Err(error) => return Err(unopened(error)),
         };

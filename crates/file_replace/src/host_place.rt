@@ -1,15 +1,18 @@
 //! A path of the host.
 
-ghost use Rattle.std.specs.Prelude.{◌≡◌, [], ◌∷◌, true, is_ok, is_some, IfErr, IfOk, OnOk, None, Ok};
+ghost use Rattle.std.specs.Prelude.{◌≡◌, [], ◌∷◌, true, is_ok, is_some, IfErr, IfOk, OnOk};
 ghost use Rattle.std.specs.Path.{path_buf_bytes};
 ghost use Rattle.fork_disk.specs.Disk.{Counts};
-ghost use Rattle.file_replace.specs.Beneath.{Has, MakesIt, RemovesIt, RenamesIt};
+ghost use Rattle.file_replace.specs.Beneath.{Has, MakesIt, OpensFolder, RemovesIt, RenamesIt, SyncsFolder};
 ghost use Rattle.file_replace.specs.Calls.{seen_at};
-ghost use Rattle.file_replace.specs.OnPlace.{Does};
+ghost use Rattle.file_replace.specs.OnPlace.{Does, told};
 ghost use Rattle.file_replace.specs.Place.{IsClear};
 ghost use Rattle.file_replace.specs.declared.calls.Call.TheVariants as calls;
 ghost use Rattle.file_replace.specs.Held.{wanted_of};
 ghost use Rattle.file_replace.specs.declared.calls.HeldCall.TheVariants.{OpenFolder};
+ghost use Rattle.host_paths.specs.Asked.{folder_name};
+ghost use Rattle.host_paths.specs.declared.host.Access.TheVariants.{Read};
+ghost use Rattle.host_paths.specs.declared.host.HostCall.TheVariants.{Open};
 
 use crate::calls::{Call, HeldCalls, Noted, PlaceCalls, Wanted, note, note_folder};
 use crate::place::{FolderSync, Replaces};
@@ -17,14 +20,15 @@ use crate::rights::Owner;
 use crate::world::FolderWorld;
 use fork_disk::Record;
 use host_paths::{
-    Beside, HostCalls, folder_name, found_at, found_of, leads_to, longest_file, write_whole,
+    Access, Beside, HostCalls, Syncing, folder_name, found_at, found_of, leads_to, longest_file,
+    open, sync, write_whole,
 };
 use std::fs::{File, Permissions};
+use std::io;
 use std::io::ErrorKind;
 use std::marker::PhantomData;
 use std::os::unix::fs::{PermissionsExt, fchown};
 use std::path::PathBuf;
-use std::{fs, io};
 
 /// What a path has to have when a file is renamed to it.
 #[derive(Drop)]
@@ -56,8 +60,10 @@ pub struct FileReplacer<'a, W: FolderWorld> {
 }
 
 /// Opens the folder of a path, to sync it, if its mode lets it be read.
-fn open_folder(rt: &HostRuntime, path: &PathBuf) -> io::Result<Option<File>> {
-    match fs::open(rt, folder_name(path)) {
+fn open_folder(rt: &HostRuntime, path: &PathBuf, asked: &mut HostCalls) -> io::Result<Option<File>>
+    ensures { IfOk result (λ folder. asked.new.events ≡ Open Read (folder_name (path_buf_bytes path.now)) folder ∷ asked.old.events) }
+{
+    match open(rt, folder_name(path), Access::Read, asked) {
         Ok(folder) => Ok(Some(folder)),
         Err(error) if error.kind() == ErrorKind::PermissionDenied => Ok(None),
         Err(error) => Err(error),
@@ -111,6 +117,7 @@ impl<'a, W: FolderWorld> FileReplacer<'a, W> {
         ensures start { IfOk result (λ place. place.log.events ≡ []) }
         ensures path { IfOk result (λ place. path_buf_bytes place.path ≡ path_buf_bytes path.now) }
         ensures there { IfOk result (λ place. place.there ≡ there) }
+        ensures folder { IfOk result (λ place. OpensFolder (path_buf_bytes path.now) place.folder place.asked.events) }
         ensures opens { log.new.events ≡ OpenFolder (wanted_of there) (is_ok result) ∷ log.old.events }
     {
         let wanted = wanted_of(&there);
@@ -124,16 +131,19 @@ impl<'a, W: FolderWorld> FileReplacer<'a, W> {
         ensures start { IfOk result (λ place. place.log.events ≡ []) }
         ensures path { IfOk result (λ place. path_buf_bytes place.path ≡ path_buf_bytes path.now) }
         ensures there { IfOk result (λ place. place.there ≡ there) }
+        ensures folder { IfOk result (λ place. OpensFolder (path_buf_bytes path.now) place.folder place.asked.events) }
     {
+        let mut asked = HostCalls::new();
+        let folder = open_folder(rt, path, &mut asked)?;
         Ok(FileReplacer {
             rt,
-            folder: open_folder(rt, path)?,
+            folder,
             path: PathBuf::from_str(rt.alloc(), path.as_str())?,
             there,
             beside: None,
             failures: 0,
             log: Record::new(),
-            asked: HostCalls::new(),
+            asked,
             world: PhantomData,
         })
     }
@@ -183,18 +193,16 @@ impl<'a, W: FolderWorld> FileReplacer<'a, W> {
     }
 }
 
-/// Syncs a folder, if the host offers that.
-fn sync_offered(folder: &Option<File>) -> io::Result<FolderSync>
-    ensures { folder.now ≡ None → result ≡ Ok FolderSync.NotOffered }
+/// Syncs a folder, if it could be opened and the host offers that.
+fn sync_offered(folder: &Option<File>, asked: &mut HostCalls) -> io::Result<FolderSync>
+    ensures { SyncsFolder folder.now result asked.old.events asked.new.events }
 {
     let Some(folder) = folder else {
         return Ok(FolderSync::NotOffered);
     };
-    match folder.sync_all() {
-        Ok(()) => Ok(FolderSync::Done),
-        Err(error)
-            if error.kind() == ErrorKind::InvalidInput || error.kind() == ErrorKind::Unsupported =>
-            { Ok(FolderSync::NotOffered) }
+    match sync(folder, asked) {
+        Ok(Syncing::Done) => Ok(FolderSync::Done),
+        Ok(Syncing::NotOffered) => Ok(FolderSync::NotOffered),
         Err(error) => Err(error),
     }
 }
@@ -288,8 +296,12 @@ impl<'a, W: FolderWorld> Replaces for FileReplacer<'a, W> {
         self.answered(Call::Rename, &[], answer)
     }
 
-    fn sync_folder(&mut self) -> io::Result<FolderSync> {
-        let answer = sync_offered(&self.folder);
+    fn sync_folder(&mut self) -> io::Result<FolderSync>
+        ensures syncs { Does (calls.SyncFolder (told result)) (is_ok result) [] (seen_at W.held self.old.log.events) (seen_at W.held self.new.log.events) }
+        ensures cause { Counts self.old.failures self.new.failures result }
+        ensures folder { SyncsFolder self.old.folder result self.old.asked.events self.new.asked.events }
+    {
+        let answer = sync_offered(&self.folder, &mut self.asked);
         let told = match &answer {
             Ok(told) => *told,
             Err(_) => FolderSync::NotOffered,

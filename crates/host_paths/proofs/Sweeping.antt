@@ -1,5 +1,5 @@
 -- What only asks removes nothing.
-use Rattle.std.proofs.Common.{◌≡◌, ℕ, ◌⊎◌, List, ◌∷◌, Option, inl, inr, sym, subst}
+use Rattle.std.proofs.Common.{ℕ, List, Option, inl, inr, sym, subst}
 use Rattle.std.specs.declared.fs.File.{File}
 use Rattle.host_paths.specs.Asked.{AsksBoth, Log}
 use Rattle.host_paths.specs.Left.{KeepsSwept, Swept}

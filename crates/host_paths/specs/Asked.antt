@@ -1,17 +1,17 @@
 -- Calls of the system at paths and on open files, and what follows from their answers.
 use Rattle.std.specs.Prelude.{◌≡◌, ◌⊎◌, ℕ, ◌==◌, ◌&&◌, Bool, true, false, if◌then◌else◌, bytes_eq, codes, List, [], ◌∷◌, Option, Some, None, IfSome, Result, Ok, Err, string_bytes, unwrap_or}
-use Rattle.std.specs.Path.{path_file_name, path_parent}
+use Rattle.std.specs.Global.{Global}
+use Rattle.std.specs.Path.{path_buf_bytes, path_file_name, path_parent}
 use Rattle.std.specs.declared.fs.File.{File}
-use Rattle.host_paths.specs.declared.host.Access.TheVariants.{Read}
+use Rattle.std.specs.declared.path.buf.PathBuf.{PathBuf}
 use Rattle.host_paths.specs.declared.host.Answer.{Answer}
 use Rattle.host_paths.specs.declared.host.Answer.TheVariants.{Is, Nothing, Failed}
 use Rattle.host_paths.specs.declared.host.FileKind.{FileKind}
 use Rattle.host_paths.specs.declared.host.FileKind.TheVariants as kinds
 use Rattle.host_paths.specs.declared.host.Found.{Found}
 use Rattle.host_paths.specs.declared.host.HostCall.{HostCall}
-use Rattle.host_paths.specs.declared.host.HostCall.TheVariants.{At, Over, Of, Open, Lock}
+use Rattle.host_paths.specs.declared.host.HostCall.TheVariants.{At, Over, Of}
 use Rattle.host_paths.specs.declared.host.Locking.{Locking}
-use Rattle.host_paths.specs.declared.host.Locking.TheVariants.{Taken}
 use Rattle.host_paths.specs.declared.host.Syncing.{Syncing}
 use Rattle.host_paths.specs.declared.identity.Identity.{Identity}
 
@@ -34,6 +34,11 @@ said_of (Err error) = Failed
 abbrev pub opened : {E : Type 0} → Result File E → Option File
 opened (Ok file) = Some file
 opened (Err error) = None
+
+-- the path that a link names, if that was read
+abbrev pub named_path : {E : Type 0} → Result (PathBuf Global) E → Option (List ℕ)
+named_path (Ok named) = Some (path_buf_bytes named)
+named_path (Err error) = None
 
 -- how a file was locked, if the call didn't fail
 abbrev pub lock_answer : {E : Type 0} → Result Locking E → Option Locking

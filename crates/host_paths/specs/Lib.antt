@@ -1,3 +1,4 @@
 pub mod Asked
 pub mod Left
 pub mod Made
+pub mod Following

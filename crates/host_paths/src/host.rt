@@ -2,14 +2,16 @@
 //! is said of them rests on this: each function here that notes a call makes that one and no other.
 
 ghost use Rattle.std.specs.Prelude.{◌≡◌, ◌∷◌, is_ok};
-ghost use Rattle.host_paths.specs.Asked.{answer_of, is_folder, is_regular, lock_answer, opened, said_of, same_file, sync_answer};
-ghost use Rattle.host_paths.specs.declared.host.HostCall.TheVariants.{At, Lock, Make, Of, Open, OpenOrMake, Over, Remove, Rename, Sync};
+ghost use Rattle.host_paths.specs.Asked.{answer_of, is_folder, is_regular, lock_answer, named_path, opened, said_of, same_file, sync_answer};
+ghost use Rattle.host_paths.specs.Following.{is_link};
+ghost use Rattle.host_paths.specs.declared.host.HostCall.TheVariants.{At, Lock, Make, Of, Open, OpenOrMake, Over, ReadLink, Remove, Rename, Sync};
 
 use fork_disk::Record;
 use std::collections::LinkedList;
 use std::fs::{File, Metadata, OpenOptions, TryLockError};
 use std::io::ErrorKind;
 use std::os::unix::fs::{MetadataExt, OpenOptionsExt};
+use std::path::PathBuf;
 use std::{fs, io};
 
 /// The bits of a mode that say who may read, write and run a file, and the special ones.
@@ -86,6 +88,8 @@ pub enum HostCall {
     Over(LinkedList<u8>, Answer),
     /// It was asked what this open file is.
     Of(File, Answer),
+    /// It was asked which path the link at this path names.
+    ReadLink(LinkedList<u8>, Option<LinkedList<u8>>),
     /// It was to open what this path leads to. Nothing is made or emptied.
     Open(Access, LinkedList<u8>, Option<File>),
     /// It was to open what this path leads to, to read and to write it, and to make it where there is nothing. Nothing
@@ -145,6 +149,13 @@ impl Found {
         ensures { result ≡ is_folder self.now.kind }
     {
         matches!(self.kind, FileKind::Folder)
+    }
+
+    /// Whether it is a link.
+    pub fn is_link(&self) -> bool
+        ensures { result ≡ is_link self.now.kind }
+    {
+        matches!(self.kind, FileKind::Link)
     }
 
     /// Whether it is the same file as another.
@@ -213,6 +224,15 @@ pub fn found_of(file: &File, log: &mut HostCalls) -> io::Result<Found>
     let answer = said_of(&found);
     *log = Record::of_events_beside(log, file, &answer);
     found
+}
+
+/// The path that the link at a path names.
+pub(crate) fn link_at(rt: &HostRuntime, path: &str, log: &mut HostCalls) -> io::Result<PathBuf>
+    ensures { log.new.events ≡ ReadLink path.now (named_path result) ∷ log.old.events }
+{
+    let named = fs::read_link(rt, path);
+    *log = Record::of_events_beside(log, &path, &named);
+    named
 }
 
 /// Opens what a path leads to. Nothing is made or emptied.

@@ -14,4 +14,4 @@ pub use host::{
 };
 pub use identity::Identity;
 pub use limits::{longest_file, this_user, write_whole};
-pub use links::{folder_name, followed, leads_to};
+pub use links::{folder_name, follow, followed, leads_to};

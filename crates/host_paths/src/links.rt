@@ -1,13 +1,15 @@
 //! Where a path leads.
 
-ghost use Rattle.std.specs.Prelude.{◌≡◌, [], unwrap_or, IfOk};
+ghost use Rattle.std.specs.Prelude.{◌≡◌, ℕ, List, [], ◌∷◌, Some, unwrap_or, IfOk};
 ghost use Rattle.std.specs.Path.{path_buf_bytes, path_bytes, path_parent};
 ghost use Rattle.host_paths.specs.Asked.{AsksBoth, LeadsTo, folder_name};
+ghost use Rattle.host_paths.specs.Following.{Follows, after_link, is_link_found};
+ghost use Rattle.host_paths.specs.declared.host.HostCall.TheVariants.{ReadLink};
 
-use crate::host::{FileKind, HostCalls, found_at, found_of};
+use crate::host::{Found, HostCalls, found_at, found_of, link_at};
 use std::fs::File;
+use std::io;
 use std::path::{Path, PathBuf};
-use std::{fs, io};
 
 /// How many links a path may lead over, as Linux counts them.
 const MOST_LINKS: u32 = 40;
@@ -45,20 +47,41 @@ pub fn leads_to(rt: &HostRuntime, path: &str, file: &File, log: &mut HostCalls) 
     }
 }
 
-/// The path that a link names.
-fn after_link(rt: &HostRuntime, path: &PathBuf) -> io::Result<PathBuf> {
-    let to = fs::read_link(rt, path)?;
-    Ok(folder_of(path).join(rt.alloc(), &to)?)
+/// The path that the link at a path names.
+fn after_link(rt: &HostRuntime, path: &PathBuf, log: &mut HostCalls) -> io::Result<PathBuf>
+    ensures { IfOk result (λ next. (named : List ℕ) × (path_buf_bytes next ≡ after_link (path_buf_bytes path.now) named)
+        × (log.new.events ≡ ReadLink (path_buf_bytes path.now) (Some named) ∷ log.old.events)) }
+{
+    let named = link_at(rt, path.as_str(), log)?;
+    Ok(folder_of(path).join(rt.alloc(), named.as_str())?)
 }
 
-/// The path of the file that this path leads to, over links. There may be no file.
-pub fn followed(rt: &HostRuntime, path: &str) -> io::Result<PathBuf> {
-    let mut path = PathBuf::from_str(rt.alloc(), path)?;
-    for _ in 0..MOST_LINKS {
-        match found_at(rt, path.as_str(), &mut HostCalls::new())? {
-            Some(found) if found.kind == FileKind::Link => path = after_link(rt, &path)?,
-            _ => return Ok(path),
+/// Whether what was found at a path is a link.
+fn is_link_found(found: &Option<Found>) -> bool
+    ensures { result ≡ is_link_found found.now }
+{
+    match found {
+        Some(found) => found.is_link(),
+        None => false,
+    }
+}
+
+/// The path of the file that this path leads to, over links. There may be no file. What was asked is noted.
+pub fn follow(rt: &HostRuntime, path: &str, log: &mut HostCalls) -> io::Result<PathBuf>
+    ensures { IfOk result (λ to. Follows path.now (path_buf_bytes to) log.old.events log.new.events) }
+{
+    let mut here = PathBuf::from_str(rt.alloc(), path)?;
+    for _turn in 0..MOST_LINKS {
+        let found = found_at(rt, here.as_str(), log)?;
+        if !is_link_found(&found) {
+            return Ok(here);
         }
+        here = after_link(rt, &here, log)?;
     }
     Err(io::ErrorKind::FilesystemLoop.into())
+}
+
+/// The same, for one who needs no note of it.
+pub fn followed(rt: &HostRuntime, path: &str) -> io::Result<PathBuf> {
+    follow(rt, path, &mut HostCalls::new())
 }

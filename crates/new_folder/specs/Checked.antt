@@ -1,5 +1,5 @@
 -- Which folders are written to, by what the system says of them.
-use Rattle.std.specs.Prelude.{◌≡◌, ℕ, ◌==◌, ◌&&◌, not, Bool, true, false, List, ◌∷◌, Some, bit_and}
+use Rattle.std.specs.Prelude.{◌≡◌, ◌⊎◌, ℕ, ◌==◌, ◌&&◌, not, Bool, true, false, List, [], ◌∷◌, ◌++◌, codes, Some, bit_and}
 use Rattle.std.specs.declared.fs.File.{File}
 use Rattle.host_paths.specs.declared.host.Access.TheVariants.{Read}
 use Rattle.host_paths.specs.declared.host.Answer.TheVariants.{Is}
@@ -15,14 +15,19 @@ is_made here there owner = is_folder here.kind && (is_folder there.kind && (same
 abbrev pub is_shared : Found → ℕ → Bool
 is_shared found owner = not (found.user == owner) && not (bit_and found.mode 0o022 == 0)
 
--- this was opened at some path
-abbrev pub Opens : File → Log → Log → Type 0
-Opens folder old new = (path : List ℕ) × (new ≡ Open Read path (Some folder) ∷ old)
+-- this folder was opened by its path and a slash: what is no folder isn't opened so
+abbrev pub Opens : List ℕ → File → Log → Log → Type 0
+Opens path folder old new = new ≡ Open Read (path ++ codes "/") (Some folder) ∷ old
 
 -- this was opened, and is the folder of this user that is at the path, where a link isn't followed
 abbrev pub OpensMade : List ℕ → ℕ → File → Log → Log → Type 0
-OpensMade path owner folder old new = (here : Found) × (there : Found) × (mid : Log) × Opens folder old mid × (is_made here there owner ≡ true) × (new ≡ At path (Is there) ∷ Of folder (Is here) ∷ mid)
+OpensMade path owner folder old new = (here : Found) × (there : Found) × (mid : Log) × Opens path folder old mid × (is_made here there owner ≡ true) × (new ≡ At path (Is there) ∷ Of folder (Is here) ∷ mid)
 
 -- this folder is the user's own, or no others than its owner may write there
 abbrev pub IsOwned : ℕ → File → Log → Log → Type 0
 IsOwned owner folder old new = (found : Found) × (is_shared found owner ≡ false) × (new ≡ Of folder (Is found) ∷ old)
+
+-- the folder of a path is open: this user's, which was made there, or one that was there; and it is the user's own, or
+-- no others than its owner may write there
+abbrev pub IsBegun : List ℕ → ℕ → File → Log → Type 0
+IsBegun path owner folder new = (mid : Log) × (OpensMade path owner folder [] mid ⊎ Opens path folder [] mid) × IsOwned owner folder mid new

@@ -1,12 +1,14 @@
 //! A folder that is written to, and one in it.
 
-ghost use Rattle.std.specs.Prelude.{◌≡◌, ◌∷◌, is_ok, true, Some, IfOk, OnOk};
+ghost use Rattle.std.specs.Prelude.{◌≡◌, ◌∷◌, List, is_ok, true, Some, IfOk, OnOk};
+ghost use Rattle.host_paths.specs.declared.host.HostCall.{HostCall};
+ghost use Rattle.new_folder.specs.Checked.{IsBegun};
 ghost use Rattle.new_folder.specs.NewFolder.{Makes, event, is_single, path_below, with_file, with_folder};
 ghost use Rattle.new_folder.specs.declared.calls.FolderCall.TheVariants.{Begin};
 
 use crate::calls::{FolderCall, FolderCalls, FolderNoted, note};
 use crate::opened::{NoNewFolder, Opened, made_or_there};
-use host_paths::{longest_file, this_user};
+use host_paths::{HostCalls, longest_file, this_user};
 use std::fs::File;
 use std::io;
 
@@ -28,14 +30,18 @@ pub struct InnerFolder<'a> {
 impl<'a> NewFolder<'a> {
     /// Makes the folder of a path, or opens one that is there, is empty, and isn't another user's in which others than
     /// its owner may write.
-    fn begun(rt: &'a HostRuntime, path: &str) -> Result<NewFolder<'a>, NoNewFolder> {
+    fn begun(rt: &'a HostRuntime, path: &str) -> Result<NewFolder<'a>, NoNewFolder>
+        ensures { IfOk result (λ it. (calls : List HostCall) × IsBegun path.now it.owner it.opened.folder calls) }
+    {
         let owner = this_user(rt).map_err(NoNewFolder::NoProc)?;
+        let mut calls = HostCalls::new();
+        let folder = made_or_there(rt, path, owner, &mut calls)?;
         let opened = Opened {
             rt,
-            folder: made_or_there(rt, path, owner)?,
+            folder,
             longest: longest_file(rt),
         };
-        opened.check(owner)?;
+        opened.check(owner, &mut calls)?;
         Ok(NewFolder { opened, owner })
     }
 

@@ -1,6 +1,6 @@
 //! An open folder, and what is made in it.
 
-ghost use Rattle.std.specs.Prelude.{◌≡◌, true, IfOk, OnOk, option_map};
+ghost use Rattle.std.specs.Prelude.{◌≡◌, ◌⊎◌, true, IfOk, OnOk, option_map};
 ghost use Rattle.new_folder.specs.Checked.{IsOwned, Opens, OpensMade, is_made, is_shared};
 ghost use Rattle.new_folder.specs.NewFolder.{Makes, is_single, path_below, with_file};
 
@@ -51,7 +51,7 @@ fn replaced() -> Error {
 
 /// Opens a folder. What is no folder isn't opened.
 fn open_folder(rt: &HostRuntime, path: &str, log: &mut HostCalls) -> io::Result<File>
-    ensures { IfOk result (λ folder. Opens folder log.old.events log.new.events) }
+    ensures { IfOk result (λ folder. Opens path.now folder log.old.events log.new.events) }
 {
     let path = format!(in rt.alloc(); "{path}/")?;
     open(rt, path.as_str(), Access::Read, log)
@@ -77,12 +77,17 @@ fn open_made(rt: &HostRuntime, path: &str, owner: u32, log: &mut HostCalls) -> i
 }
 
 /// Makes the folder of a path, or opens one that is there.
-pub(crate) fn made_or_there(rt: &HostRuntime, path: &str, owner: u32) -> io::Result<File> {
+pub(crate) fn made_or_there(
+    rt: &HostRuntime,
+    path: &str,
+    owner: u32,
+    log: &mut HostCalls,
+) -> io::Result<File>
+    ensures { IfOk result (λ folder. OpensMade path.now owner folder log.old.events log.new.events ⊎ Opens path.now folder log.old.events log.new.events) }
+{
     match fs::create_dir(rt, path) {
-        Ok(()) => open_made(rt, path, owner, &mut HostCalls::new()),
-        Err(error) if error.kind() == ErrorKind::AlreadyExists => {
-            open_folder(rt, path, &mut HostCalls::new())
-        }
+        Ok(()) => open_made(rt, path, owner, log),
+        Err(error) if error.kind() == ErrorKind::AlreadyExists => open_folder(rt, path, log),
         Err(error) => Err(error),
     }
 }
@@ -131,9 +136,11 @@ impl<'a> Opened<'a> {
     }
 
     /// Refuses a folder that has something in it, and one of another user where others may write.
-    pub(crate) fn check(&self, owner: u32) -> Result<(), NoNewFolder> {
+    pub(crate) fn check(&self, owner: u32, log: &mut HostCalls) -> Result<(), NoNewFolder>
+        ensures { OnOk result (IsOwned owner self.now.folder log.old.events log.new.events) }
+    {
         self.check_empty()?;
-        self.check_owner(owner, &mut HostCalls::new())
+        self.check_owner(owner, log)
     }
 
     /// Makes a folder of this name, which isn't there.
