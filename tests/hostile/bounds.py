@@ -166,7 +166,7 @@ def shared_data(bench):
         for words in every_command():
             yield f"{' '.join(words)}, a fork of {count} resources that share {length} bytes", limits.fault_of(words, lambda folder, fork=fork: write(fork, folder, "f"))
     # as many as macheap reads, one byte more, as many as the data has, and one byte more
-    for count, length, more, is_read in ((4, most // 4 - 4, 0, True), (4, most // 4 - 3, 0, False), (2, most - 4, most - 4, True), (2, most - 4, most - 5, False)):
+    for count, length, more, is_read in ((4, most // 4 - 4, 0, True), (4, most // 4 - 3, 0, False), (2, most - 4, most, True), (2, most - 4, most - 1, False)):
         fork = sharing(count, length, more)
         with room() as folder:
             write(fork, folder, "f")
