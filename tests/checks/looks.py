@@ -60,6 +60,7 @@ RUNS = [
     ("--look .", 1, b""),
     ("--look long", 1, b""),
     ("--look /dev/zero", 1, b""),
+    ("--look pipe", 1, b""),
     ("--look", 2, b""),
     ("--look ram --base x", 2, b""),
     ("--look ram --base $", 2, b""),
@@ -81,14 +82,16 @@ def main(program):
         # a file with a hole, one byte longer than what is read
         with open(os.path.join(room, "long"), "wb") as it:
             it.truncate((1 << 30) + 1)
+        # nobody writes to it, so opening it would never end
+        os.mkfifo(os.path.join(room, "pipe"))
         for words, status, wanted in RUNS:
-            done = subprocess.run([program, *words.split()], cwd=room, capture_output=True, check=False, stdin=subprocess.DEVNULL)
+            done = subprocess.run([program, *words.split()], cwd=room, capture_output=True, check=False, stdin=subprocess.DEVNULL, timeout=60)
             shown = json.loads(done.stdout) if isinstance(wanted, dict) else done.stdout
             is_silent = done.stderr == b"" if status in (0, 3) else done.stderr.startswith(b"error: ")
             if done.returncode != status or wanted not in (None, shown) or not is_silent:
                 wrong += 1
                 print(f"macheap {words}: status {done.returncode}, {done.stdout}, {done.stderr}, and not {status}, {wanted}")
-        if sorted(os.listdir(room)) != sorted([*files, "long"]):
+        if sorted(os.listdir(room)) != sorted([*files, "long", "pipe"]):
             wrong += 1
             print("a look has made a file")
     print(f"looks: {len(RUNS)} runs, {wrong} wrong")

@@ -206,6 +206,10 @@ fn read_file(alloc: Global, file: &File) -> Result<Vec<u8>, NotLooked> {
 /// Looks at the file that was asked for.
 fn look_at(rt: &HostRuntime, request: &Request<'_>) -> Result<u8, NotLooked> {
     let alloc = rt.alloc();
+    // a pipe that nobody writes to would keep the opening waiting
+    if !fs::metadata(rt, request.path)?.is_file() {
+        return Err(NotLooked::NotPlain);
+    }
     let bytes = read_file(alloc, &fs::open(rt, request.path)?)?;
     show(alloc, &bytes, request, rt.stdout())
 }
