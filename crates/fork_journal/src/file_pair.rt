@@ -1,8 +1,8 @@
 //! A fork and its journal that are two files.
 
-ghost use Rattle.std.specs.Prelude.{◌≡◌, false, [], OnOk};
+ghost use Rattle.std.specs.Prelude.{◌≡◌, ◌∷◌, false, [], OnOk};
 ghost use Rattle.fork_disk.specs.Disk.{Counts};
-ghost use Rattle.fork_disk.specs.Record.{failed_calls};
+ghost use Rattle.fork_disk.specs.Record.{cut_event, failed_calls, len_event, read_event, sync_event, write_event};
 ghost use Rattle.fork_journal.specs.Crash.{has_failed};
 ghost use Rattle.fork_journal.specs.declared.pair.Side.TheVariants.{Fork, Journal};
 ghost use Rattle.fork_journal.specs.Files.{file_on, history_of, reads_outcome, side_at};
@@ -68,28 +68,36 @@ impl<W: PairWorld> PairDisk for FilePair<W> {
 
     ghost reads_is_outcome = { λ pair honest. reads_outcome (W.held pair.number) pair.log.events honest.answers };
 
-    fn len(&mut self, side: Side) -> Result<u64, DiskFault> {
+    fn len(&mut self, side: Side) -> Result<u64, DiskFault>
+        ensures noted { self.new.log.events ≡ len_event (file_on side self.old.fork self.old.journal).which result ∷ self.old.log.events }
+    {
         match side {
             Side::Fork => self.fork.len(&mut self.log),
             Side::Journal => self.journal.len(&mut self.log),
         }
     }
 
-    fn read_at(&mut self, side: Side, at: u64, buffer: &mut [u8]) -> Result<(), DiskFault> {
+    fn read_at(&mut self, side: Side, at: u64, buffer: &mut [u8]) -> Result<(), DiskFault>
+        ensures noted { self.new.log.events ≡ read_event (file_on side self.old.fork self.old.journal).which at buffer.new result ∷ self.old.log.events }
+    {
         match side {
             Side::Fork => self.fork.read_at(at, buffer, &mut self.log),
             Side::Journal => self.journal.read_at(at, buffer, &mut self.log),
         }
     }
 
-    fn write_at(&mut self, side: Side, at: u64, bytes: &[u8]) -> Result<(), DiskFault> {
+    fn write_at(&mut self, side: Side, at: u64, bytes: &[u8]) -> Result<(), DiskFault>
+        ensures noted { self.new.log.events ≡ write_event (file_on side self.old.fork self.old.journal).which at bytes.now result ∷ self.old.log.events }
+    {
         match side {
             Side::Fork => self.fork.write_at(at, bytes, &mut self.log),
             Side::Journal => self.journal.write_at(at, bytes, &mut self.log),
         }
     }
 
-    fn cut(&mut self, side: Side, len: u64) -> Result<(), DiskFault> {
+    fn cut(&mut self, side: Side, len: u64) -> Result<(), DiskFault>
+        ensures noted { self.new.log.events ≡ cut_event (file_on side self.old.fork self.old.journal).which len result ∷ self.old.log.events }
+    {
         match side {
             Side::Fork => self.fork.cut(len, &mut self.log),
             Side::Journal => self.journal.cut(len, &mut self.log),
@@ -100,6 +108,7 @@ impl<W: PairWorld> PairDisk for FilePair<W> {
     fn sync(&mut self, side: Side) -> Result<(), DiskFault>
         ensures syncs { IsHonestIn W.PairWorld self.new → SyncsSide (contents_in W.PairWorld) (history_in W.PairWorld) (IsHonestIn W.PairWorld) self.old self.new side result }
         ensures cause { Counts (failed_calls self.old.log.events) (failed_calls self.new.log.events) result }
+        ensures noted { self.new.log.events ≡ sync_event (file_on side self.old.fork self.old.journal).which result ∷ self.old.log.events }
         ensures number { self.new.number ≡ self.old.number }
         ensures still { OnOk result ((file_on side self.new.fork self.new.journal).is_spent ≡ false) }
     {
