@@ -1,7 +1,8 @@
 #!/usr/bin/env python3
 """Writes what bash, zsh and fish need to complete the words of resfork and macheap: tools/completions.py FOLDER.
 
-Commands and options are those of the tables in crates/fork_words/src/command.rt and crates/macheap/src/asked.rt, with the first part of their help.
+Commands and options are those of the tables in crates/fork_words/src/command.rt, crates/macheap/src/asked.rt and look.rt, with the first part of their
+help.
 FOLDER gets bash/NAME, zsh/_NAME and fish/NAME.fish of each program; `tests/run completions` compares them with the programs' own help.
 """
 import os
@@ -13,6 +14,7 @@ TOP = os.path.dirname(os.path.dirname(os.path.abspath(__file__)))
 COMMAND = re.compile(r'CommandText \{\s*name: "(\w+)",\s*about: "([^"]*)"')
 WORD = re.compile(r'word!\(((?:"\w+" ?)+), "([\w-]+)", Form::(\w+)(?:\(([^)]*)\))?, Values::(\w+)(?:\("([^"]*)"\))?[^;]*;\s*"((?:[^"\\]|\\.)*)"\)')
 OPTION = re.compile(r'\.arg\((\w+)_option\(alloc, "(\w+)", (\w+)\)\)')
+LOOK_OPTION = re.compile(r'\.arg\(option\(alloc, "(\w+)", "(\w+)", (\w+)\)\)|Arg::new\(alloc, "(\w+)"\)(?:\s*\.\w+\([^"]*\))*\s*\.long\("\w+"\)\s*\.action\(ArgAction::SetTrue\)\s*\.help\("([^"]*)"\)')
 HELP = re.compile(r'let (\w+_help) =\s*"([^"]*)";')
 # what an operand or a value is called that names a file, or a folder
 FILES, FOLDERS = {"FILE", "IN", "OUT", "A", "B", "FROM", "TYPE[:ID]|TO"}, {"DIR"}
@@ -64,16 +66,24 @@ def commands_of_resfork():
 
 
 def words_of_macheap():
-    """The options of macheap."""
+    """The options of a run, with the one that asks for a look; and those of a look."""
     source = read("crates/macheap/src/asked.rt")
     helps, values = dict(HELP.findall(source)), {"number": "N", "file": "FILE", "flag": ""}
-    made = [Word([f"--{name}"], values[kind], kind == "file", brief(helps[text])) for kind, name, text in OPTION.findall(source)]
-    return [HELP_OPTION, VERSION_OPTION, *made]
+    run = [Word([f"--{name}"], values[kind], kind == "file", brief(helps[text])) for kind, name, text in OPTION.findall(source)]
+    source = read("crates/macheap/src/look.rt")
+    helps = dict(HELP.findall(source))
+    look = [Word([f"--{name or flag}"], value, False, about or brief(helps[text])) for name, value, text, flag, about in LOOK_OPTION.findall(source)]
+    return [HELP_OPTION, VERSION_OPTION, *run, look[0]], [HELP_OPTION, *look]
 
 
 def quoted(text):
     """A text as a word of a shell."""
     return "'" + text.replace("'", "'\\''") + "'"
+
+
+def in_line(command):
+    """The pattern of a line with a command that is an option, or of any other."""
+    return f"*{quoted(f' {command} ')}*" if command else "*"
 
 
 def bash_case(words):
@@ -125,9 +135,12 @@ def indented(lines, columns):
 
 
 def bash(name, commands):
-    """The file for bash. A program without commands has the one command None."""
+    """The file for bash. A program without commands has the command None, and those that are options."""
     if None in commands:
-        return BASH.format(name=name, first=1, body=indented(bash_case(commands[None][1]), 4))
+        body = ["case \" ${COMP_WORDS[*]:1:COMP_CWORD - 1} \" in"]
+        for command, (_, words) in reversed(commands.items()):
+            body += [f"    {in_line(command)})", *("        " + it for it in bash_case(words)), "        ;;"]
+        return BASH.format(name=name, first=1, body=indented([*body, "esac"], 4))
     body = ["if ((COMP_CWORD == 1)); then", f"    offer choices {' '.join(commands)} --help --version", "    return", "fi", "case ${COMP_WORDS[1]} in"]
     for command, (_, words) in commands.items():
         body += [f"    {command})", *("        " + it for it in bash_case(words)), "        ;;"]
@@ -156,7 +169,10 @@ def zsh_words(words):
 def zsh(name, commands):
     """The file for zsh."""
     if None in commands:
-        return f"#compdef {name}\n_arguments \\\n" + indented(" \\\n".join(zsh_words(commands[None][1])).split("\n"), 4) + "\n"
+        lines = [f"#compdef {name}", 'case " ${words[2,CURRENT - 1]} " in']
+        for command, (_, words) in reversed(commands.items()):
+            lines += [f"    {in_line(command)}) _arguments \\", indented(" \\\n".join(zsh_words(words)).split("\n"), 8), "        ;;"]
+        return "\n".join([*lines, "esac"]) + "\n"
     lines = [f"#compdef {name}", "if ((CURRENT == 2)); then", "    local -a commands=("]
     lines += [f"        {quoted(f'{command}:{about}')}" for command, (about, _) in commands.items()]
     lines += ["    )", "    _describe command commands", "    return", "fi", "shift words", "((CURRENT--))", "case $words[1] in"]
@@ -175,17 +191,21 @@ def fish_line(name, condition, word):
 def fish(name, commands):
     """The file for fish."""
     lines = [f"# completes the words of {name} in fish"]
+    seen, other = "__fish_seen_subcommand_from {}", ""
+    if None in commands:
+        seen, other = "string match -q -- '* {} *' (commandline -cp)", " -n " + quoted("not string match -q -- '* --look *' (commandline -cp)")
     if None not in commands:
         lines += [f"complete -c {name} -n __fish_use_subcommand -f -a {command} -d {quoted(about)}" for command, (about, _) in commands.items()]
         lines += [fish_line(name, " -n __fish_use_subcommand -f", it) for it in (HELP_OPTION, VERSION_OPTION)]
     for command, (_, words) in commands.items():
-        condition = f" -n '__fish_seen_subcommand_from {command}'" if command else ""
+        condition = f" -n {quoted(seen.format(command))}" if command else other
         lines += [fish_line(name, condition, word) for word in words if word.names]
     return "\n".join(lines) + "\n"
 
 
 def main(folder):
-    programs = {"resfork": commands_of_resfork(), "macheap": {None: ("", words_of_macheap())}}
+    run, look = words_of_macheap()
+    programs = {"resfork": commands_of_resfork(), "macheap": {None: ("", run), "--look": ("", look)}}
     for name, commands in programs.items():
         for path, text in ((f"bash/{name}", bash(name, commands)), (f"zsh/_{name}", zsh(name, commands)), (f"fish/{name}.fish", fish(name, commands))):
             path = os.path.join(folder, path)

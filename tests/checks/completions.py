@@ -28,7 +28,8 @@ LINES = [
     (["resfork", "show", "b", "--as", ""], ["text", "hex", "png"]), (["resfork", "ls", ""], ["a file", "b", "c dir"]), (["resfork", "ls", "b", "a"], ["a file"]),
     (["resfork", "ls", "-t", ""], []), (["resfork", "get", "b", ""], []), (["resfork", "get", "b", "TEXT", "128", "-o", "a"], ["a file"]), (["resfork", "unpack", "b", ""], ["c dir"]),
     (["resfork", "put", "-q", "-i", "b", ""], ["a file", "b", "c dir"]), (["resfork", "diff", "b", "a"], ["a file"]), (["resfork", "diff", "b", "a", ""], []),
-    (["resfork", "cp", "b", "TEXT", "a"], ["a file"]), (["macheap", "--fork", "a"], ["a file"]), (["macheap", "--mode", ""], ["24", "32"]), (["macheap", "--zone", ""], []), (["macheap", ""], []),
+    (["resfork", "cp", "b", "TEXT", "a"], ["a file"]), (["macheap", "--fork", "a"], ["a file"]), (["macheap", "--mode", ""], ["24", "32"]), (["macheap", "--look", "a"], ["a file"]), (["macheap", "--look", "b", "--j"], ["--json"]),
+    (["macheap", "--look", "b", "--mode", ""], ["24", "32"]), (["macheap", "--zone", ""], []), (["macheap", ""], []),
 ]
 
 
@@ -63,14 +64,14 @@ def options_of(program, command):
 def try_options(programs, made, folder):
     """Compares the options of each command with those of its help."""
     for name, program in programs.items():
-        commands = [[it] for it in COMMAND.findall(output([program, "--help"]).partition("Options:")[0]) if it != "help"] or [[]]
+        commands = [[it] for it in COMMAND.findall(output([program, "--help"]).partition("Options:")[0]) if it != "help"] or [[], ["--look", "b"]]
         for command in commands:
-            what, wanted = " ".join([name, *command]), options_of(program, command)
+            what, wanted = " ".join([name, *command]), sorted(options_of(program, command) + ["--look"] * (not command))
             must(f"the options of {what} in bash", sorted(in_bash(f"{made}/bash/{name}", [name, *command, "-"], folder)), wanted)
             if shutil.which("fish"):
                 offered = [option for sign in ("-", "--") for option in in_fish(f"{made}/fish/{name}.fish", [name, *command, sign], folder)]
                 must(f"the options of {what} in fish", sorted({it for it in offered if it.startswith("-")}), sorted(set(wanted)))
-        if commands != [[]]:
+        if [] not in commands:
             offered = in_bash(f"{made}/bash/{name}", [name, ""], folder)
             must(f"the commands of {name}", offered, [*(it for [it] in commands), "--help", "--version"])
         if shutil.which("zsh"):
