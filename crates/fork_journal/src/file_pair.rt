@@ -6,7 +6,7 @@ ghost use Rattle.fork_disk.specs.Record.{cut_event, failed_calls, len_event, rea
 ghost use Rattle.fork_journal.specs.Crash.{has_failed};
 ghost use Rattle.fork_journal.specs.declared.pair.Side.TheVariants.{Fork, Journal};
 ghost use Rattle.fork_journal.specs.Files.{file_on, history_of, reads_outcome, side_at};
-ghost use Rattle.fork_journal.specs.OnPair.{SyncsSide};
+ghost use Rattle.fork_journal.specs.OnPair.{CutsSide, MeasuresSide, ReadsSide, SyncsSide, WritesSide};
 
 use crate::pair::{PairDisk, Side};
 use crate::pair_world::PairWorld;
@@ -69,6 +69,8 @@ impl<W: PairWorld> PairDisk for FilePair<W> {
     ghost reads_is_outcome = { λ pair honest. reads_outcome (W.held pair.number) pair.log.events honest.answers };
 
     fn len(&mut self, side: Side) -> Result<u64, DiskFault>
+        ensures measures { IsHonestIn W.PairWorld self.new → MeasuresSide (contents_in W.PairWorld) (history_in W.PairWorld) (IsHonestIn W.PairWorld) self.old self.new side result }
+        ensures cause { Counts (failed_calls self.old.log.events) (failed_calls self.new.log.events) result }
         ensures noted { self.new.log.events ≡ len_event (file_on side self.old.fork self.old.journal).which result ∷ self.old.log.events }
     {
         match side {
@@ -78,6 +80,8 @@ impl<W: PairWorld> PairDisk for FilePair<W> {
     }
 
     fn read_at(&mut self, side: Side, at: u64, buffer: &mut [u8]) -> Result<(), DiskFault>
+        ensures reads { IsHonestIn W.PairWorld self.new → ReadsSide (contents_in W.PairWorld) (history_in W.PairWorld) (IsHonestIn W.PairWorld) self.old self.new side at buffer.old buffer.new result }
+        ensures cause { Counts (failed_calls self.old.log.events) (failed_calls self.new.log.events) result }
         ensures noted { self.new.log.events ≡ read_event (file_on side self.old.fork self.old.journal).which at buffer.new result ∷ self.old.log.events }
     {
         match side {
@@ -87,6 +91,8 @@ impl<W: PairWorld> PairDisk for FilePair<W> {
     }
 
     fn write_at(&mut self, side: Side, at: u64, bytes: &[u8]) -> Result<(), DiskFault>
+        ensures writes { IsHonestIn W.PairWorld self.new → WritesSide (contents_in W.PairWorld) (history_in W.PairWorld) (IsHonestIn W.PairWorld) self.old self.new side at bytes.now result }
+        ensures cause { Counts (failed_calls self.old.log.events) (failed_calls self.new.log.events) result }
         ensures noted { self.new.log.events ≡ write_event (file_on side self.old.fork self.old.journal).which at bytes.now result ∷ self.old.log.events }
     {
         match side {
@@ -96,6 +102,8 @@ impl<W: PairWorld> PairDisk for FilePair<W> {
     }
 
     fn cut(&mut self, side: Side, len: u64) -> Result<(), DiskFault>
+        ensures cuts { IsHonestIn W.PairWorld self.new → CutsSide (contents_in W.PairWorld) (history_in W.PairWorld) (IsHonestIn W.PairWorld) self.old self.new side len result }
+        ensures cause { Counts (failed_calls self.old.log.events) (failed_calls self.new.log.events) result }
         ensures noted { self.new.log.events ≡ cut_event (file_on side self.old.fork self.old.journal).which len result ∷ self.old.log.events }
     {
         match side {
