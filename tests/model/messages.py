@@ -1,7 +1,7 @@
 """The texts of the messages of `resfork`, each once, by the exit status that comes with it and the condition that it tells.
 
-They are those of docs/resfork.1 and docs/FILES.md; tests/checks/messages.py compares them with the sources. `said` makes a text of its values, `told`
-the whole line with its status, and `pattern` what matches the texts of some conditions.
+They are those of docs/resfork.1 and docs/FILES.md; tests/checks/messages.py compares them with the sources. `message` makes a text of its values,
+`refusal` the whole line with its status, and `pattern` what matches the texts of some conditions.
 """
 import re
 
@@ -72,7 +72,7 @@ ROWS = {
         "list": "the {count} entries that offset 24 calls for end outside the file, which has {count} bytes",
         "entry": "entry {count}, listed at offset {count}, has {count} bytes from offset {count} on, and the file has {count}",
         "sum": "the checksum at offset 124 is ${sum}, and that of the header is ${sum}",
-        "fork": "the {fork}, whose length is at offset {count}, has {count} bytes from offset {count} on, and the file has {count}",
+        "fork": "the {fork}, whose length is at offset {of length}, has {count} bytes from offset {count} on, and the file has {count}",
         "no colon": "no line begins with the colon that begins a BinHex text",
         "no digit": "offset {count}: the character {byte} is no BinHex digit",
         "open": "offset {count}: the text ends without a closing colon",
@@ -250,7 +250,9 @@ ROWS = {
 }
 TEXTS = {condition: text for rows in ROWS.values() for condition, text in rows.items()}
 STATUS = {condition: status for status, rows in ROWS.items() for condition in rows}
-FIELD = re.compile(r"\{[^}]*\}")
+FIELD = re.compile(r"(\{[^}]*\})")
+# what Linux says of a path where nothing is
+MISSING = "No such file or directory (os error 2)"
 # what kinds of values look like
 VALUES = {
     "{count}": r"\d+",
@@ -261,22 +263,24 @@ VALUES = {
     "{sum}": "[0-9A-F]{4}",
     "{crc}": "0x[0-9a-f]{4}",
     "{byte}": "0x..",
+    "{of length}": "(?:83|87)",
     "{fork}": "(?:data|resource) fork",
     "{section}": "(?:header|data fork|resource fork)",
 }
 
 
-def said(condition, *values):
+def message(condition, *values):
     """The text of a condition with these values, in turn."""
     values = iter(values)
     return FIELD.sub(lambda _: str(next(values)), TEXTS[condition])
 
 
-def told(who, condition, *values):
+def refusal(who, condition, *values):
     """The exit status, and the line that tells this of a file, or of `error`."""
-    return STATUS[condition], f"{who}: {said(condition, *values)}\n"
+    return STATUS[condition], f"{who}: {message(condition, *values)}\n"
 
 
 def pattern(*conditions):
     """What matches the texts of these conditions, whatever their values are."""
-    return re.compile("|".join(FIELD.sub(lambda it: VALUES.get(it.group(), ".*").replace("\\", "\\\\"), re.escape(TEXTS[it]).replace(r"\{", "{").replace(r"\}", "}")) for it in conditions))
+    parts = lambda it: (VALUES.get(part, ".*") if FIELD.match(part) else re.escape(part) for part in FIELD.split(TEXTS[it]))
+    return re.compile("|".join("".join(parts(it)) for it in conditions))
