@@ -24,7 +24,7 @@ from model.fork import WORDS, NoFork, Row, column, listing, quoted
 from model.messages import MISSING, message, refusal
 from places import TOP
 
-RAW = (lambda fork: fork, "a resource fork", 0)
+RAW = (lambda fork: fork, message("raw"), 0)
 ROWS = [(b"TEXT", 128, b"Read me", 0, b"Hi"), (b"TEXT", 5, None, 4, b""), (b"snd ", 1, None, 0, b"\0\1")]
 
 # command lines, on a file of these rows and on a damaged one, with the status and what is said; the file isn't touched

@@ -120,7 +120,7 @@ DAMAGED = bytes.fromhex(
     "00000100 00000106 00000006 00000032 00000000 0000 0000 001C 0032 0000 54455854 0000 000A 0080 FFFF 00 000000 00000000"
 )
 FAULT = message("datum", "'TEXT'", 128, 16777215, 2, "000100", "00012C") + "\n"
-LEFT = f"  {message('readable', 0, 1)}\n"
+LEFT = f"  {message('readable', message('tally', 0, 1))}\n"
 
 
 def try_damaged(program, path):
@@ -140,8 +140,8 @@ NONE = [
     ("AppleDouble without one", apple(0x51607, [(9, finder_info())]), message("absent")),
     ("MacBinary without one", mac_binary(2, b""), message("absent")),
     ("BinHex without one", bin_hex(b""), message("absent")),
-    ("a zip archive", b"PK\x03\x04" + bytes(60), message("archive", message("zip"), "unzip ")),
-    ("a gzip file", b"\x1f\x8b\x08" + bytes(60), message("archive", message("gzip"), "gunzip -k ")),
+    ("a zip archive", b"PK\x03\x04" + bytes(60), message("archive", message("zip"), message("unzip").removesuffix("FILE"))),
+    ("a gzip file", b"\x1f\x8b\x08" + bytes(60), message("archive", message("gzip"), message("gunzip").removesuffix("FILE"))),
 ]
 
 

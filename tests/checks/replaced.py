@@ -15,6 +15,7 @@ import subprocess
 import tempfile
 
 from checks.kept import KEPT
+from model.messages import message, pattern
 from model.toolbox import File, Row
 from places import INTERPOSE
 
@@ -155,7 +156,7 @@ class Bench:
                 fault = run.fault(job, *wanted)
                 if fault is None and "n" not in whole.calls[turn - 1 :].removesuffix("Y") and what == "fails" and letter == "Y" and job.backup is None:
                     # after the rename the new file is there, and what isn't sure is reported
-                    fault = None if run.files["f"] == job.new and "synced" in run.message else f"after {run.calls} it says {run.message}"
+                    fault = None if run.files["f"] == job.new and pattern("not synced").search(run.message) else f"after {run.calls} it says {run.message}"
                 yield f"call {turn}, {letter}, {what}", fault
 
     def full(self, job):
@@ -268,7 +269,7 @@ class Bench:
 
         run = Run(self, job, ready=lock)
         run.said.close()
-        yield "a lock", run.fault(job, job.old) or (None if run.status == 4 and "at work" in run.message else f"status {run.status}: {run.message}")
+        yield "a lock", run.fault(job, job.old) or (None if run.status == 4 and message("in use") in run.message else f"status {run.status}: {run.message}")
 
     def unwritable(self, job):
         """A folder in which no file can be made: the message names -o."""

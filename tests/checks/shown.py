@@ -16,7 +16,7 @@ from checks.fork_questions import Difference
 from checks.forks import Choices, compare, run
 from checks.parts import whole
 from model.fork import NoFork, Row, listing, read_fork
-from model.messages import message, refusal
+from model.messages import MISSING, message, refusal
 from model.shown import dots, file_name, folder_name, read_png
 
 RANDOM = random.Random(7)
@@ -67,10 +67,10 @@ LINES = [
     (["show", "FILE", "none"], *refusal("FILE", "no type", "none")),
     (["show", "FILE", "ICON", "9", "1"], 2, "Usage"),
     (["show", "FILE", "ICON", "1", "-o", "NO_SUCH_FOLDER/out"], 4, "-o"),
-    (["show", "NO_SUCH_FILE"], 4, "NO_SUCH_FILE"),
+    (["show", "NO_SUCH_FILE"], *refusal("NO_SUCH_FILE", "unreadable", MISSING)),
     (["unpack", "FILE"], 2, "Usage"),
-    (["unpack", "FILE", "NO_SUCH_FOLDER/out"], 4, "NO_SUCH_FOLDER/out"),
-    (["unpack", "NO_SUCH_FILE", "NO_SUCH_FOLDER/out"], 4, "NO_SUCH_FILE"),
+    (["unpack", "FILE", "NO_SUCH_FOLDER/out"], *refusal("FILE", "no folder", "NO_SUCH_FOLDER/out", MISSING)),
+    (["unpack", "NO_SUCH_FILE", "NO_SUCH_FOLDER/out"], *refusal("NO_SUCH_FILE", "unreadable", MISSING)),
 ]
 
 

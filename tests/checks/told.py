@@ -73,10 +73,9 @@ class Bench:
 
 def try_inside(bench):
     """Files without resources, and an archive in the data fork: by no fork at all, and by a fork without resources."""
-    advice = "unar -k hidden 'a file.hqx'"
     empty = fork_of([])
-    for archive, name, command in ((STUFFIT, "StuffIt", advice), (OLD_STUFFIT, "StuffIt", advice), (b"PK\3\4" + bytes(90), "zip", "unzip 'a file.hqx'")):
-        told = message("inside", message(name), command)
+    for archive, name, command in ((STUFFIT, "StuffIt", "unar"), (OLD_STUFFIT, "StuffIt", "unar"), (b"PK\3\4" + bytes(90), "zip", "unzip")):
+        told = message("inside", message(name), message(command).replace("FILE", "'a file.hqx'"))
         for keep in (mac_binary, bin_hex_of, lambda data, fork: apple_file(0x51600, data, fork)):
             bench.write("a file.hqx", keep(archive, b""))
             for words in (["ls"], ["ls", "--types"], ["check"]):
@@ -93,7 +92,7 @@ def try_inside(bench):
             bench.write("a file.hqx", keep(archive, fork_of(ROWS)))
             must("ls of a fork with resources", bench.run("ls", "a file.hqx"), (0, listing(ROWS), ""))
             must("ls -t of it", bench.run("ls", "-t", "none", "a file.hqx"), (0, "", ""))
-    must("ls -", bench.run("ls", "-", text=mac_binary(STUFFIT, b"")), (3, "", f"-: {message('inside', message('StuffIt'), 'unar -k hidden -')}\n"))
+    must("ls -", bench.run("ls", "-", text=mac_binary(STUFFIT, b"")), (3, "", f"-: {message('inside', message('StuffIt'), message('unar').replace('FILE', '-'))}\n"))
 
 
 def try_none(bench):
@@ -111,8 +110,9 @@ def try_none(bench):
 
 def try_unknown(bench):
     """All commands say the same of an archive and of a text."""
+    archive = message("archive", message("StuffIt"), message("unar").replace("FILE", "file"))
     for text, told in (
-        (OLD_STUFFIT, message("archive", message("StuffIt"), "unar -k hidden file")), (STUFFIT, message("archive", message("StuffIt"), "unar -k hidden file")),
+        (OLD_STUFFIT, archive), (STUFFIT, archive),
         (b"hello, this is a text of some lines\n" * 9, message("unknown")), (b"short", message("unknown for", message("header", 16, 5, "000000"))),
     ):
         bench.write("file", text)

@@ -107,8 +107,9 @@ ROWS = {
         "datum": "{quoted} {id}: its length is {count}, and {count} bytes are left in the data\n  at ${place}, reached from the reference at ${place}",
         "byte count": "{quoted} {id}: the bytes of the resources up to it are {count}, and at most {count} are read of such data\n  at ${place}, reached from the reference at ${place}",
         "within": "(places are those in the resource fork of {kind})",
-        "readable": "{count} of {count} resources can be read",
-        "readable of more": "{count} of at least {count} resources can be read",
+        "readable": "{tally} can be read",
+        "tally": "{count} of {count} resources",
+        "tally of more": "{count} of at least {count} resources",
         # texts of derez
         "no statement": "`data` is expected, or the end",
         "unread": "{word} isn't read; `data` is expected, or the end",
@@ -193,7 +194,7 @@ ROWS = {
     },
     # what comes with any status, and words that others have in them
     None: {
-        "written": "{readable} can be read, and are written to {file}",
+        "written": "{tally} can be read, and are written to {file}",
         "left beside": "{file} was left, and can be removed",
         "not in": "not in {file}: {things}",
         "links": "has {count} names; the other names keep the old file",
