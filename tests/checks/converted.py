@@ -113,9 +113,10 @@ def try_names(program, folder):
 def try_words(program, folder):
     """What is refused by its words, or by what the containers hold."""
     it = some_contents(1)
-    paths = {name: os.path.join(folder, name) for name in ("single", "raw", "out", "text", "fork")}
+    paths = {name: os.path.join(folder, name) for name in ("single", "raw", "out", "text", "fork", "long")}
     write(paths["single"], WRITERS["applesingle"](it))
     write(paths["raw"], it.resource)
+    write(paths["long"], WRITERS["applesingle"](Contents(**{**vars(it), "comment": b"c" * 65536})))
     write(paths["text"], b"Nothing but a text, of more than sixteen characters")
     rows = [
         (["--to", "zip", "raw", "out"], 2, message("bad container")),
@@ -126,6 +127,8 @@ def try_words(program, folder):
         (["--to", "appledouble", "--data", "fork", "raw", "out"], 2, message("no data file")),
         (["--to", "appledouble", "--data", "out", "single", "out"], 2, message("one file")),
         (["--to", "macbinary", "--name", "x" * 64, "raw", "out"], 4, message("unwritten", message("name too long", 64))),
+        (["--to", "binhex", "--name", "", "raw", "out"], 4, message("unwritten", message("needs a name"))),
+        (["--to", "macbinary", "long", "out"], 4, message("unwritten", message("comment too long", 65536))),
         (["--to", "binhex", "--data", "-", "-", "out"], 2, message("input twice")),
     ]
     for words, status, told in rows:

@@ -211,6 +211,7 @@ LINES = [
     (["ls", "--what", "FILE"], 2, "--what"),
     (["ls", "FILE", "-t"], 2, "--type"),
     (["ls", "FILE", "-t", "TEXTS"], *refusal("error", "bad type")),
+    (["ls", "\udcff"], *refusal("error", "no text word")),
     (["ls", "FILE", "FILE"], 0, ""),
     (["ls", "-t", "TEXT", "-t", "STR", "FILE"], 0, ""),
     (["get", "FILE"], 2, "Usage"),
@@ -355,6 +356,11 @@ def try_lines(program, path):
     for words, status, told in LINES:
         words = [path if it == "FILE" else it for it in words]
         compare(" ".join(words), run(program, words), status, None, re.sub("^FILE:", f"{path}:", told))
+    ours, terminal = os.openpty()
+    done = subprocess.run([program, "get", path, "TEXT", "5"], stdout=terminal, stderr=subprocess.PIPE, text=True, check=False)
+    compare("get to a terminal", (done.returncode, b"", done.stderr), 2, b"", refusal(path, "terminal")[1])
+    os.close(ours)
+    os.close(terminal)
 
 
 def forks(first, count):

@@ -216,7 +216,7 @@ def limits(room, measure):
         must(f"{words} with a limit", room.run(words[0], "--limit", "9", *words[1:])[0], wanted)
         must(f"what {words} left", (sorted(os.listdir(room.folder)), room.read("good")), (before, open(SAMPLE, "rb").read()))  # pylint: disable=consider-using-with
     for word in ("", "+5", "-5", "5k", "5T", "K", "1.5M", "0x10", "17179869184G", "99999999999999999999"):
-        must(f"--limit {word!r}", room.run("info", f"--limit={word}", "good")[0], 2)
+        must(f"--limit {word!r}", room.run("info", f"--limit={word}", "good")[::2], refusal("error", "bad limit"))
     for word in ("17179869183G", "18446744073709551615", "0009999"):
         must(f"--limit {word!r}", room.run("info", f"--limit={word}", "good")[0], 0)
 

@@ -145,7 +145,7 @@ def try_large(bench, kinds, count):
         must((status, said, len(lines), lines[-1]) == (0, "", most + 1, MORE), f"{' '.join(words)}: status {status}, {len(lines)} lines, it told {said!r}")
     # each resource needs a name of its own in what is written, and two bytes hold no offset of the last ones
     status, _, said = bench.run(["salvage", "fork", "-o", "mended"])
-    must(status != 0 and said.startswith("fork: ") and not os.path.exists(bench.path("mended")), f"salvage -o: status {status}, it told {said!r}")
+    must((status, said) == refusal("fork", "too much") and not os.path.exists(bench.path("mended")), f"salvage -o: status {status}, it told {said!r}")
     for kept_as in ("applesingle", "macbinary", "binhex", "raw"):
         status, _, said = bench.run(["convert", "--to", kept_as, "fork", f"as_{kept_as}"])
         must(status == 0, f"convert --to {kept_as}, which carries any fork: status {status}, it told {said!r}")

@@ -164,9 +164,9 @@ class Bench:
         size = len(job.new)
         for room in sorted({0, 1, size // 2, size - 1}):
             run = Run(self, job, REPLACE_ROOM=room)
-            yield f"room for {room} bytes", run.fault(job, job.old) or (None if run.status == 4 else f"status {run.status}")
+            yield f"room for {room} bytes", run.fault(job, job.old) or (None if run.status == 4 and pattern("new unwritten").search(run.message) else f"status {run.status}")
             run = Run(self, job, limit=room)
-            yield f"files of {room} bytes at most", run.fault(job, job.old) or (None if run.status == 4 else f"status {run.status}: {run.message}")
+            yield f"files of {room} bytes at most", run.fault(job, job.old) or (None if run.status == 4 and pattern("new unwritten").search(run.message) else f"status {run.status}: {run.message}")
 
     def small_disk(self, job):
         """A real disk that is too small, where the machine lets one be mounted."""
@@ -225,7 +225,7 @@ class Bench:
     def busy(self, job):
         """A file that can't be renamed over, as where another is mounted on it."""
         run = Run(self, job, REPLACE_BUSY="f")
-        ok = run.status == 4 and "-o" in run.message and not any(name.startswith(NEW) for name in run.names)
+        ok = run.status == 4 and pattern("not renamed").search(run.message) and not any(name.startswith(NEW) for name in run.names)
         yield "where something is mounted", run.fault(job, job.old) or (None if ok else f"status {run.status}, {run.names}: {run.message}")
 
     def swept_up(self, job):
@@ -275,7 +275,7 @@ class Bench:
         """A folder in which no file can be made: the message names -o."""
         if os.getuid() != 0:
             run = Run(self, job, ready=lambda folder: os.chmod(folder, 0o555))
-            yield "a folder that can't be written", run.fault(job, job.old) or (None if "-o" in run.message else run.message)
+            yield "a folder that can't be written", run.fault(job, job.old) or (None if pattern("none beside").search(run.message) else run.message)
 
 
 def unchanged(bench, job):

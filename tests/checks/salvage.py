@@ -163,7 +163,7 @@ def try_twice(program, path):
     found = salvaged(program, path, fork)
     must([(it.kind, it.ident) for it in found] == [(b"TEXT", 1), (b"TEXT", 2), (b"TEXT", 4), (b"STR ", 3)], "the rows of a type that stands twice")
     status, text, _ = run(program, ["check", path])
-    must(status == 3 and pattern("same type").search(text.decode()), f"check told {text!r}")
+    must(status == 3 and message("same type", "'TEXT'", "", "").split("\n")[0] in text.decode(), f"check told {text!r}")
     status, text, _ = run(program, ["salvage", "--list", path])
     must(status == 0 and [it.split()[1] for it in text.decode().splitlines()] == ["1", "2", "3", "4"], f"salvage --list wrote {text!r}")
 
@@ -184,7 +184,9 @@ def try_several_faults(program, path):
     must(status == 3 and told.count("fault: ") == 3 and all(it in told for it in places), f"check told {told!r}, and not {places}")
     status, text, _ = run(program, ["salvage", path])
     lines = text.decode().splitlines()
-    must(status == 0 and sum(bool(pattern("not read").search(it)) for it in lines) == 2 and sum(bool(pattern("lost name").search(it)) for it in lines) == 1, f"salvage wrote {lines}")
+    lost = [message("lost bytes", message("gap", length, place, left)) for length, place, left in ((1000, places[0], 28), (2000, places[1], 4))]
+    unread = [message("not read", f"TEXT {it:>6}", why, f"${map_at + 38 + 12 * it:06X}") for it, why in zip((1, 4), lost)]
+    must(status == 0 and [it for it in lines if "?" in it] == unread and lines[3] == "  " + message("lost name", places[2]), f"salvage wrote {lines}")
 
 
 def try_odd(program, path):
