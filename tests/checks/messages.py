@@ -44,7 +44,7 @@ def texts():
         with open(path, encoding="utf-8") as file:
             source = NO_TEXT.sub("", file.read())
         for found in LITERAL.finditer(source):
-            text = plain(re.sub(r"\\(.)", lambda it: {"n": "\n"}.get(it.group(1), it.group(1)), found.group(1)))
+            text = plain(re.sub(r"\\(.)", lambda it: "\n" if it[1] == "n" else it[1], found[1]))
             every.add(text)
             if SAID.search(source, 0, found.start()):
                 whole |= {text} if pieces(text) else set()
