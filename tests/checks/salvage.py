@@ -19,7 +19,7 @@ from checks.forks import Choices, run
 from model.container import TOLD, NoContents, in_spite, resource_fork
 from model.contents import WRITERS, Contents
 from model.fork import FORMAT, MESSAGES, NoFork, Row, listing, read_fork
-from model.messages import message, pattern, refusal
+from model.messages import message, refusal
 
 FORKS, CHANGES, SHARE = 3, 300, 0.95
 OTHER = message("unknown")
