@@ -7,7 +7,8 @@ The list is that of the small model in tests/model/fork.py. In the bytes a `*` s
 """
 import sys
 
-from model.fork import TOLD, NoFork, listing, read_fork
+from model.fork import NoFork, listing, read_fork
+from model.messages import message
 
 
 def resources(fork):
@@ -17,7 +18,7 @@ def resources(fork):
     try:
         return listing(read_fork(fork))
     except NoFork as fault:
-        return f"no fork: {TOLD[fault.args[0]]}\n"
+        return f"no fork: {message(fault.args[0])}\n"
 
 
 def dump(fork):

@@ -16,73 +16,74 @@ import time
 
 from checks.fork_questions import Difference
 from checks.forks import Choices, compare, operand
-from checks.kept import DAMAGED, DATA, KEPT, write
+from checks.kept import DAMAGED, DATA, FAULT, KEPT, write
 from checks.shown import fork_of, must
 from model.change import Missing, Taken, changed, copied, place, put, remove, rest, set_row, table_of
 from model.container import resource_fork
 from model.fork import WORDS, NoFork, Row, column, listing, quoted
+from model.messages import MISSING, message, refusal
 from places import TOP
 
-RAW = (lambda fork: fork, "a resource fork", 0)
+RAW = (lambda fork: fork, message("raw"), 0)
 ROWS = [(b"TEXT", 128, b"Read me", 0, b"Hi"), (b"TEXT", 5, None, 4, b""), (b"snd ", 1, None, 0, b"\0\1")]
 
-# command lines, on a file of these rows and on a damaged one, with the status and words of what is said; the file isn't touched
+# command lines, on a file of these rows and on a damaged one, with the status and what is said; the file isn't touched
 LINES = [
-    (["put", "NO_SUCH_FILE", "TEXT", "1"], 4, "NO_SUCH_FILE: there is no such file; --create"),
-    (["put", "FILE", "TEXT", "x"], 2, "-32768 to 32767"),
-    (["put", "FILE", "TEXT", "32768"], 2, "-32768 to 32767"),
-    (["put", "FILE", "TEXTS", "1"], 2, "a type has four bytes"),
-    (["put", "FILE", "TEXT", "1", "--attrs", "locked,blue"], 2, "--attrs takes"),
-    (["put", "FILE", "TEXT", "1", "--attrs=+locked,preload"], 2, "--attrs takes"),
-    (["put", "FILE", "TEXT", "1", "--name", "x" * 256], 2, "255 bytes"),
-    (["put", "FILE", "TEXT", "1", "-i", "NO_SUCH_FILE"], 4, "NO_SUCH_FILE: can't be read"),
+    (["put", "NO_SUCH_FILE", "TEXT", "1"], *refusal("NO_SUCH_FILE", "no file")),
+    (["put", "FILE", "TEXT", "x"], *refusal("error", "bad id")),
+    (["put", "FILE", "TEXT", "32768"], *refusal("error", "bad id")),
+    (["put", "FILE", "TEXTS", "1"], *refusal("error", "bad type")),
+    (["put", "FILE", "TEXT", "1", "--attrs", "locked,blue"], *refusal("error", "bad attributes")),
+    (["put", "FILE", "TEXT", "1", "--attrs=+locked,preload"], *refusal("error", "bad attributes")),
+    (["put", "FILE", "TEXT", "1", "--name", "x" * 256], *refusal("error", "bad name")),
+    (["put", "FILE", "TEXT", "1", "-i", "NO_SUCH_FILE"], *refusal("NO_SUCH_FILE", "unreadable", MISSING)),
     (["put", "FILE", "TEXT", "1", "--backup", "-o", "OUT"], 2, "cannot be used with"),
-    (["put", "FILE", "TEXT", "128", "--new"], 1, "FILE: there is such a resource already"),
-    (["put", "DAMAGED", "TEXT", "128"], 3, "DAMAGED: 'TEXT' 128: its length"),
-    (["rm", "FILE", "TEXT", "128", "129"], 1, "FILE: there is no resource TEXT 129"),
-    (["rm", "FILE", "TEXT", "128", "128"], 1, "FILE: there is no resource TEXT 128"),
+    (["put", "FILE", "TEXT", "128", "--new"], *refusal("FILE", "taken")),
+    (["put", "DAMAGED", "TEXT", "128"], 3, f"DAMAGED: {FAULT}"),
+    (["rm", "FILE", "TEXT", "128", "129"], *refusal("FILE", "no resource", "TEXT 129")),
+    (["rm", "FILE", "TEXT", "128", "128"], *refusal("FILE", "no resource", "TEXT 128")),
     (["rm", "NO_SUCH_FILE", "TEXT", "128"], 4, "NO_SUCH_FILE"),
     (["set", "FILE", "TEXT", "128", "--name", "a", "--no-name"], 2, "cannot be used with"),
-    (["set", "FILE", "TEXT", "128", "--id", "5"], 1, "FILE: there is such a resource already"),
-    (["set", "FILE", "TEXT", "1", "--id", "5"], 1, "FILE: there is no resource TEXT 1"),
-    (["cp", "NO_SUCH_FILE", "FILE"], 4, "NO_SUCH_FILE: can't be read"),
-    (["cp", "FILE", "FILE"], 1, "FILE: there is such a resource already"),
-    (["cp", "FILE", "TEXT:7", "FILE"], 1, "FILE: there is no resource TEXT 7"),
-    (["cp", "FILE", "none", "FILE"], 1, "FILE: there is no resource of the type none"),
+    (["set", "FILE", "TEXT", "128", "--id", "5"], *refusal("FILE", "taken")),
+    (["set", "FILE", "TEXT", "1", "--id", "5"], *refusal("FILE", "no resource", "TEXT 1")),
+    (["cp", "NO_SUCH_FILE", "FILE"], *refusal("NO_SUCH_FILE", "unreadable", MISSING)),
+    (["cp", "FILE", "FILE"], *refusal("FILE", "taken")),
+    (["cp", "FILE", "TEXT:7", "FILE"], *refusal("FILE", "no resource", "TEXT 7")),
+    (["cp", "FILE", "none", "FILE"], *refusal("FILE", "no type", "none")),
     (["cp", "DAMAGED", "FILE"], 3, "DAMAGED: "),
     (["cp", "FILE"], 2, ""),
-    (["cp", "TWO", "OUT"], 1, "one type and id"),
-    (["put", "-", "TEXT", "128", "-o", "OUT"], 2, "can be read once"),
-    (["cp", "-", "TEXT:128", "-", "-o", "OUT"], 2, "can be read once"),
-    (["diff", "-", "-"], 2, "can be read once"),
-    (["rm", "-", "TEXT", "128"], 2, "-o"),
-    (["rez", "TEXT", "-o", "SINGLE"], 4, "is there, and is more"),
+    (["cp", "TWO", "OUT"], *refusal("TWO", "two of one")),
+    (["put", "-", "TEXT", "128", "-o", "OUT"], *refusal("error", "input twice")),
+    (["cp", "-", "TEXT:128", "-", "-o", "OUT"], *refusal("error", "input twice")),
+    (["diff", "-", "-"], *refusal("error", "input twice")),
+    (["rm", "-", "TEXT", "128"], *refusal("error", "input changed")),
+    (["rez", "TEXT", "-o", "SINGLE"], *refusal("SINGLE", "more than a fork")),
     (["diff", "FILE", "NO_SUCH_FILE"], 4, "NO_SUCH_FILE"),
     (["pack", "NO_SUCH_FOLDER", "OUT"], 4, "NO_SUCH_FOLDER/resources.json"),
     (["rez", "FILE", "-o", "OUT"], 3, "line 1"),
-    (["rez", "FILE"], 2, "--output"),
-    (["pack", "NO_SUCH_FOLDER"], 2, "--into FILE"),
+    (["rez", "FILE"], *refusal("error", "no one output")),
+    (["pack", "NO_SUCH_FOLDER"], *refusal("error", "no one output")),
     (["rez", "TEXT", "-o", "OUT", "--into", "FILE"], 2, "cannot be used with"),
     (["pack", "NO_SUCH_FOLDER", "OUT", "--into", "FILE"], 2, "cannot be used with"),
     (["pack", "NO_SUCH_FOLDER", "--like", "FILE", "--into", "FILE"], 2, "cannot be used with"),
     (["rez", "TEXT", "--force", "--into", "FILE"], 2, "cannot be used with"),
     (["rez", "TEXT", "--replace", "--skip", "--into", "FILE"], 2, "cannot be used with"),
     (["rez", "TEXT", "-o", "OUT", "--backup"], 2, "cannot be used with"),
-    (["rez", "TEXT", "-o", "OUT", "--replace"], 2, "go with --into"),
-    (["pack", "NO_SUCH_FOLDER", "OUT", "--skip"], 2, "go with --into"),
-    (["rez", "TEXT", "--into", "-"], 2, "--into names a file"),
-    (["rez", "TEXT", "--into", "FILE"], 1, "FILE: there is such a resource already: --replace"),
+    (["rez", "TEXT", "-o", "OUT", "--replace"], *refusal("error", "no into")),
+    (["pack", "NO_SUCH_FOLDER", "OUT", "--skip"], *refusal("error", "no into")),
+    (["rez", "TEXT", "--into", "-"], *refusal("error", "into input")),
+    (["rez", "TEXT", "--into", "FILE"], *refusal("FILE", "both there")),
     (["rez", "TEXT", "--into", "NO_SUCH_FILE"], 4, "NO_SUCH_FILE"),
     (["rez", "TEXT", "--into", "DAMAGED"], 3, "DAMAGED: "),
-    (["rez", "DOUBLED", "--into", "FILE", "--replace"], 1, "one type and id"),
-    (["rez", "NOTHING", "--into", "FILE"], 1, "NOTHING: there are no resources in it, and nothing is put into a file: name some in it, or an OUT"),
-    (["rez", "NOTHING", "--into", "NO_SUCH_FILE", "-n"], 1, "NOTHING: there are no resources in it"),
-    (["pack", "EMPTY", "--into", "FILE"], 1, "EMPTY: there are no resources in it, and nothing is put into a file"),
-    (["pack", "--like", "SINGLE", "EMPTY", "BINARY"], 4, "BINARY: it is there, and is more than a resource fork, which would be lost: name another file, or --force"),
-    (["pack", "--like", "OTHER", "EMPTY", "SINGLE"], 4, "SINGLE: it is there, and is more than a resource fork, which would be lost: name another file, or --force"),
-    (["pack", "--like", "SINGLE", "EMPTY", "SINGLE"], 4, "SINGLE: it is there, and has resources that the new file lacks, "),
-    (["rez", "TEXT", "-o", "DAMAGED"], 4, "DAMAGED: it is there, and no resource fork that can be read"),
-    (["rez", "TEXT", "-n", "-o", "DAMAGED"], 4, "DAMAGED: it is there, and no resource fork that can be read"),
+    (["rez", "DOUBLED", "--into", "FILE", "--replace"], *refusal("DOUBLED", "two of one")),
+    (["rez", "NOTHING", "--into", "FILE"], *refusal("NOTHING", "nothing")),
+    (["rez", "NOTHING", "--into", "NO_SUCH_FILE", "-n"], *refusal("NOTHING", "nothing")),
+    (["pack", "EMPTY", "--into", "FILE"], *refusal("EMPTY", "nothing")),
+    (["pack", "--like", "SINGLE", "EMPTY", "BINARY"], *refusal("BINARY", "more than a fork")),
+    (["pack", "--like", "OTHER", "EMPTY", "SINGLE"], *refusal("SINGLE", "more than a fork")),
+    (["pack", "--like", "SINGLE", "EMPTY", "SINGLE"], *refusal("SINGLE", "lacking", len(ROWS))),
+    (["rez", "TEXT", "-o", "DAMAGED"], *refusal("DAMAGED", "no fork there")),
+    (["rez", "TEXT", "-n", "-o", "DAMAGED"], *refusal("DAMAGED", "no fork there")),
     (["diff", "FILE", "DAMAGED"], 3, "DAMAGED: "),
 ]
 
@@ -279,7 +280,8 @@ def try_lost(program, folder, fork, rows, other, sources):
         write(path, fork)
         before = state(path)
         if count:
-            compare(f"{words[0]} over others", run(program, words), 4, b"", f"{path}: it is there, and has resources that the new file lacks, {count} of them: --into FILE")
+            status, lost = refusal(path, "lacking", count)
+            compare(f"{words[0]} over others", run(program, words), status, b"", lost)
             must(state(path) == before, f"{words[0]}: a file that would lose resources is touched")
             words.append("--force")
         compare(f"{words[0]} over others", run(program, [*words, "-q"]), 0, b"", "")
@@ -299,7 +301,7 @@ def try_case(program, path, old, case, rows, extra):
     try:
         after = case.change(rows)
     except (Missing, Taken) as refused:
-        told = "there is no resource" if isinstance(refused, Missing) else "such a resource already"
+        told = message("no resource", "") if isinstance(refused, Missing) else message("taken")
         compare(what, run(program, words, case.given), 1, b"", told)
         must(state(path) == before, f"{what}: a file that is refused is touched")
         return "refused"
@@ -476,7 +478,7 @@ def try_long(program, folder):
     holds(program, out, [one])
     before, small = state(path), Row(b"AAAA", 1, None, 0, b"Hi")
     big = run(program, ["put", path, "TEXT", "2"], b"Hi")
-    must(big[:2] == (4, b"") and "the first 16777216 bytes" in big[2], f"a resource too far away: {big}")
+    must(big == (4, b"", f"{path}: {message('unwritten', message('too big'))}\n"), f"a resource too far away: {big}")
     must(state(path) == before, "a resource too far away: the file is touched")
     # the first that three bytes can't say is 4 bytes after so many
     for count, status in ((16777211, 0), (16777212, 4)):

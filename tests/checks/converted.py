@@ -17,6 +17,7 @@ from checks.shown import must
 from model.change import table_of
 from model.contents import READERS, TO_2000, WRITERS, Contents, apple, as_copied, held, lost
 from model.fork import NoFork
+from model.messages import MISSING, message, refusal
 
 APART = ("raw", "appledouble")
 
@@ -61,19 +62,19 @@ def try_pair(program, folder, source, target, it):
         wanted = Contents(**{**vars(wanted), "data": data})
     words_lost = lost(target, wanted)
     if source == "appledouble" and target not in APART:
-        words_lost.append("its data fork, which is in another file (--data FILE)")
+        words_lost.append(message("its data file"))
     if source not in APART and target in APART and it.data:
         status, output, told = run(program, [*words, "--lossy"])
-        must((status, output) == (4, b"") and "its data fork would be lost" in told and not os.path.exists(new), f"no --data: {status} {told!r}")
+        must((status, output, told) == (4, b"", refusal(old, "data lost")[1]) and not os.path.exists(new), f"no --data: {status} {told!r}")
         data = it.data
     elif words_lost:
         status, output, told = run(program, words)
-        must((status, output, told) == (4, b"", f"{old}: {', '.join(words_lost)} would be lost; --lossy leaves it out\n"), f"lost {words_lost}: {status} {told!r}")
+        must((status, output, told) == (4, b"", refusal(old, "lost", ", ".join(words_lost))[1]), f"lost {words_lost}: {status} {told!r}")
         must(not os.path.exists(new), "a file is written that was refused")
     if data is not None:
         words += ["--data", fork]
         words_lost = lost(target, wanted)
-    said = f"{old}: not in {new}: {', '.join(words_lost)}\n" if words_lost else ""
+    said = f"{old}: {message('not in', new, ', '.join(words_lost))}\n" if words_lost else ""
     status, output, told = run(program, [*words, "-n", "--lossy"])
     must(status == 0 and not os.path.exists(new), f"-n: {status} {told!r}")
     status, output, told = run(program, [*words, "--lossy"])
@@ -112,20 +113,23 @@ def try_names(program, folder):
 def try_words(program, folder):
     """What is refused by its words, or by what the containers hold."""
     it = some_contents(1)
-    paths = {name: os.path.join(folder, name) for name in ("single", "raw", "out", "text", "fork")}
+    paths = {name: os.path.join(folder, name) for name in ("single", "raw", "out", "text", "fork", "long")}
     write(paths["single"], WRITERS["applesingle"](it))
     write(paths["raw"], it.resource)
+    write(paths["long"], WRITERS["applesingle"](Contents(**{**vars(it), "comment": b"c" * 65536})))
     write(paths["text"], b"Nothing but a text, of more than sixteen characters")
     rows = [
-        (["--to", "zip", "raw", "out"], 2, "--to takes"),
+        (["--to", "zip", "raw", "out"], 2, message("bad container")),
         (["raw", "out"], 2, "--to"),
         (["--to", "macbinary", "text", "out"], 3, "text: "),
-        (["--to", "macbinary", "none", "out"], 4, "can't be read"),
-        (["--to", "macbinary", "--data", "fork", "single", "out"], 2, "there is none here"),
-        (["--to", "appledouble", "--data", "fork", "raw", "out"], 2, "there is none here"),
-        (["--to", "appledouble", "--data", "out", "single", "out"], 2, "would take the place"),
-        (["--to", "macbinary", "--name", "x" * 64, "raw", "out"], 4, "64 characters"),
-        (["--to", "binhex", "--data", "-", "-", "out"], 2, "can be read once"),
+        (["--to", "macbinary", "none", "out"], 4, message("unreadable", MISSING)),
+        (["--to", "macbinary", "--data", "fork", "single", "out"], 2, message("no data file")),
+        (["--to", "appledouble", "--data", "fork", "raw", "out"], 2, message("no data file")),
+        (["--to", "appledouble", "--data", "out", "single", "out"], 2, message("one file")),
+        (["--to", "macbinary", "--name", "x" * 64, "raw", "out"], 4, message("unwritten", message("name too long", 64))),
+        (["--to", "binhex", "--name", "", "raw", "out"], 4, message("unwritten", message("needs a name"))),
+        (["--to", "macbinary", "long", "out"], 4, message("unwritten", message("comment too long", 65536))),
+        (["--to", "binhex", "--data", "-", "-", "out"], 2, message("input twice")),
     ]
     for words, status, told in rows:
         got = run(program, ["convert", *(paths.get(word, word) for word in words)])

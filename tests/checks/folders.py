@@ -18,6 +18,7 @@ from checks.forks import compare, run
 from checks.shown import fork_of, must, write
 from measured import Measure, slowness
 from model.fork import Row
+from model.messages import message, refusal
 from model.shown import folder_name
 
 # a user other than the one who runs the checks, and the seconds and the bytes that a command may take besides three times its file
@@ -80,7 +81,7 @@ def try_owners(program, room):
             if owner != os.getuid():
                 os.chown(folder, owner, owner)
             refused = owner != os.getuid() and mode & 0o022
-            told = "belongs to another user, and others may write there" if refused else ""
+            told = refusal(fork, "another's folder", folder)[1] if refused else ""
             compare(f"unpack to a folder of {owner} with mode {mode:o}", run(program, ["unpack", fork, folder]), 4 if refused else 0, b"", told)
             must(os.listdir(folder) == [] if refused else sorted(os.listdir(folder)) == ["TEXT", "resources.json"], f"{folder} has {os.listdir(folder)}")
     link, folder = os.path.join(room, "link"), os.path.join(room, "led")
@@ -123,7 +124,7 @@ def try_limit(program, room):
     write(fork, fork_of([Row(b"TEXT", 1, None, 0, bytes(1000)), Row(b"TEXT", 2, None, 0, bytes(70000))]))
     within = lambda: resource.setrlimit(resource.RLIMIT_FSIZE, (65536, 65536))
     done = subprocess.run([program, "unpack", fork, folder], capture_output=True, text=True, preexec_fn=within, check=False)
-    compare("unpack with a limit", (done.returncode, done.stdout, done.stderr), 4, "", f"not all is unpacked: {folder}/TEXT/2.bin")
+    compare("unpack with a limit", (done.returncode, done.stdout, done.stderr), 4, "", f"{fork}: {message('not all unpacked', f'{folder}/TEXT/2.bin', '')}")
     must(not os.path.exists(os.path.join(folder, "resources.json")), "resources.json is there, and not all is unpacked")
 
 
@@ -140,7 +141,7 @@ def try_pack(program, room):
     folder, out = os.path.join(room, "packed"), os.path.join(room, "out")
     os.makedirs(os.path.join(folder, "TEXT"))
     one = os.path.join(folder, "TEXT", "1.bin")
-    for count, size, told in [(20000, 1000, "more than a resource fork can say"), (20000, 1, "more than a resource fork can say"), (5000, 3000, "")]:
+    for count, size, told in [(20000, 1000, message("too big")), (20000, 1, message("too big")), (5000, 3000, "")]:
         write(one, bytes(size))
         said = json.dumps(manifest_of(count, "TEXT/1.bin")).encode()
         write(os.path.join(folder, "resources.json"), said)
@@ -149,10 +150,10 @@ def try_pack(program, room):
         compare(f"pack of {count} times {size} bytes", spent(program, ["pack", "-q", folder, out], files), status, b"", told)
     with open(one, "wb") as file:
         file.truncate(1 << 40)
-    compare("pack of a file that is too long", spent(program, ["pack", "-q", folder, out], 0), 4, b"", "TEXT/1.bin is longer than the limit of 1073741824 bytes")
+    compare("pack of a file that is too long", spent(program, ["pack", "-q", folder, out], 0), 4, b"", f"TEXT/1.bin {message('too long', 1 << 30)}\n")
     os.remove(one)
     os.mkfifo(one)
-    compare("pack of a pipe", spent(program, ["pack", "-q", folder, out], 0), 4, b"", "TEXT/1.bin can't be read: it is no regular file")
+    compare("pack of a pipe", spent(program, ["pack", "-q", folder, out], 0), 4, b"", f"TEXT/1.bin {message('unreadable', message('irregular'))}\n")
 
 
 def shared_fork(kinds, more):
@@ -193,8 +194,8 @@ def try_types(program, room):
     for words in (["ls", "--types", path], ["info", path]):
         status, said, told = spent(program, words, len(fork))
         must((status, told) == (0, "") and said.count(b"      1\n") == len(kinds), f"{words}: not all of 65535 types are counted: {status}, {told}")
-    crowded = f"there are 65535 resources in a map of 524310 bytes, and at most {524310 // 12} are read"
-    last, same = "'AAAB' is twice in the type list", "'AAAA' is twice in the type list"
+    crowded = message("row count", 65535, 524310, 524310 // 12)
+    last, same = (message("same type", kind, "", "").split("\n")[0] for kind in ("'AAAB'", "'AAAA'"))
     for some, more, said in ((kinds, 0, crowded), ([*kinds[:-1], b"AAAB"], 4 * len(kinds), last), ([b"AAAA"] * 65535, 4 * len(kinds), same)):
         fork = shared_fork(some, more)
         write(path, fork)
@@ -209,7 +210,7 @@ def try_texts(program, room):
     path = os.path.join(room, "types.r")
     text = b"".join(b"data '" + four(number) + b"' (1) {};\n" for number in range(200000))
     write(path, text)
-    compare("rez of 200000 types", spent(program, ["rez", path, "-o", path + ".made"], 10 * len(text)), 4, b"", "more than a resource fork can say")
+    compare("rez of 200000 types", spent(program, ["rez", path, "-o", path + ".made"], 10 * len(text)), 4, b"", message("too big"))
 
 
 def apple(ids, fork):
@@ -255,7 +256,7 @@ def try_runs(program, room):
         bound = max(UNPACKED, 3 * len(text))
         refused = least + 2 > bound
         # (bytes of 0 are those of a file without a name and with two empty forks, and their checksums are 0)
-        must(status == (3 if refused else 0) and (f"and at most {bound} are read of it" in told) == refused, f"{least} bytes of {len(text)}: status {status}, and it told {told!r}")
+        must(status == (3 if refused else 0) and (message("long text", "", bound).partition("bytes")[2] in told) == refused, f"{least} bytes of {len(text)}: status {status}, and it told {told!r}")
 
 
 def spent_text(program, path, unpacked, size):

@@ -15,6 +15,7 @@ import tempfile
 
 from checks.fork_questions import Difference, expect, opening_is_refused, questions
 from model.fork import FORMAT, MESSAGES, MOST_BYTES, NoFork, Row, column, listing, open_code, quoted, read_fork, told_of, types
+from model.messages import MISSING, message, refusal
 
 # the forks
 
@@ -199,7 +200,7 @@ def limits():
     yield "9,000,000 bytes", small.ljust(9000000, b"\0")
 
 
-# command lines, with their status, and words of what is printed on standard error
+# command lines, with their status, and what is printed on standard error, or words of it
 LINES = [
     (["--help"], 0, ""),
     (["--version"], 0, ""),
@@ -209,45 +210,46 @@ LINES = [
     (["ls"], 2, "Usage"),
     (["ls", "--what", "FILE"], 2, "--what"),
     (["ls", "FILE", "-t"], 2, "--type"),
-    (["ls", "FILE", "-t", "TEXTS"], 2, "type"),
+    (["ls", "FILE", "-t", "TEXTS"], *refusal("error", "bad type")),
+    (["ls", "\udcff"], *refusal("error", "no text word")),
     (["ls", "FILE", "FILE"], 0, ""),
     (["ls", "-t", "TEXT", "-t", "STR", "FILE"], 0, ""),
     (["get", "FILE"], 2, "Usage"),
     (["get", "FILE", "TEXT"], 2, "Usage"),
     (["get", "FILE", "TEXT", "5", "6"], 2, "Usage"),
-    (["get", "FILE", "TEXT", "5x"], 1, 'there is no resource TEXT "5x"\n'),
-    (["get", "FILE", "TEXT", ""], 1, 'there is no resource TEXT ""\n'),
-    (["get", "FILE", "TEXT", "32768"], 1, 'there is no resource TEXT "32768"\n'),
-    (["get", "FILE", "TEXT", "\\q"], 2, "name"),
-    (["get", "FILE", "TEXT", "\u4e2d"], 2, "name"),
-    (["get", "FILE", "", "5"], 2, "type"),
-    (["get", "FILE", "''", "5"], 2, "type"),
-    (["get", "FILE", "TEXTS", "5"], 2, "type"),
-    (["get", "FILE", "'TEXT", "5"], 2, "type"),
-    (["get", "FILE", "TEXT'", "5"], 2, "type"),
-    (["get", "FILE", "'", "5"], 2, "type"),
-    (["get", "FILE", "\\x4", "5"], 2, "type"),
-    (["get", "FILE", "\\x4g45", "5"], 2, "type"),
-    (["get", "FILE", "\\q", "5"], 2, "type"),
-    (["get", "FILE", "\u4e2d", "5"], 2, "type"),
-    (["get", "FILE", "caf\u00e9", "5"], 1, "there is no resource caf\u00e9 5\n"),
+    (["get", "FILE", "TEXT", "5x"], *refusal("FILE", "no resource", 'TEXT "5x"')),
+    (["get", "FILE", "TEXT", ""], *refusal("FILE", "no resource", 'TEXT ""')),
+    (["get", "FILE", "TEXT", "32768"], *refusal("FILE", "no resource", 'TEXT "32768"')),
+    (["get", "FILE", "TEXT", "\\q"], *refusal("error", "bad resource")),
+    (["get", "FILE", "TEXT", "\u4e2d"], *refusal("error", "bad resource")),
+    (["get", "FILE", "", "5"], *refusal("error", "bad type")),
+    (["get", "FILE", "''", "5"], *refusal("error", "bad type")),
+    (["get", "FILE", "TEXTS", "5"], *refusal("error", "bad type")),
+    (["get", "FILE", "'TEXT", "5"], *refusal("error", "bad type")),
+    (["get", "FILE", "TEXT'", "5"], *refusal("error", "bad type")),
+    (["get", "FILE", "'", "5"], *refusal("error", "bad type")),
+    (["get", "FILE", "\\x4", "5"], *refusal("error", "bad type")),
+    (["get", "FILE", "\\x4g45", "5"], *refusal("error", "bad type")),
+    (["get", "FILE", "\\q", "5"], *refusal("error", "bad type")),
+    (["get", "FILE", "\u4e2d", "5"], *refusal("error", "bad type")),
+    (["get", "FILE", "caf\u00e9", "5"], *refusal("FILE", "no resource", "caf\u00e9 5")),
     (["get", "FILE", "TEXT", "5"], 0, ""),
     (["get", "--nth", "1", "FILE", "TEXT", "5"], 0, ""),
-    (["get", "FILE", "TEXT", "5", "--nth", "2"], 1, "there is no resource TEXT 5 with --nth 2\n"),
-    (["get", "FILE", "TEXT", "5", "--nth", "0"], 2, "--nth"),
+    (["get", "FILE", "TEXT", "5", "--nth", "2"], *refusal("FILE", "no resource", "TEXT 5 with --nth 2")),
+    (["get", "FILE", "TEXT", "5", "--nth", "0"], *refusal("error", "bad nth")),
     (["get", "FILE", "'TEXT'", "005"], 0, ""),
     (["get", "FILE", "\\x54E\\x58T", "5"], 0, ""),
     (["get", "FILE", "'\\x54\\x45\\x58\\x54'", "5"], 0, ""),
-    (["get", "FILE", "TEXT", "-5"], 1, "there is no resource TEXT -5\n"),
-    (["get", "FILE", "'-abc'", "5"], 1, "there is no resource -abc 5\n"),
+    (["get", "FILE", "TEXT", "-5"], *refusal("FILE", "no resource", "TEXT -5")),
+    (["get", "FILE", "'-abc'", "5"], *refusal("FILE", "no resource", "-abc 5")),
     (["get", "FILE", "-abc", "5"], 2, "Usage"),
-    (["get", "FILE", "TEX", "5"], 1, "there is no resource TEX  5\n"),
-    (["get", "FILE", "TEX ", "5"], 1, "there is no resource TEX  5\n"),
+    (["get", "FILE", "TEX", "5"], *refusal("FILE", "no resource", "TEX  5")),
+    (["get", "FILE", "TEX ", "5"], *refusal("FILE", "no resource", "TEX  5")),
     (["ls", "--json", "FILE"], 0, ""),
     (["ls", "--json", "--data", "base64", "FILE"], 0, ""),
     (["ls", "--data", "base64", "FILE"], 2, "--json"),
-    (["ls", "--json", "--data", "hex", "FILE"], 2, "base64"),
-    (["ls", "--json", "--types", "FILE"], 2, "--types"),
+    (["ls", "--json", "--data", "hex", "FILE"], *refusal("error", "bad data")),
+    (["ls", "--json", "--types", "FILE"], *refusal("error", "types as JSON")),
     (["ls", "--json", "--paths", "FILE"], 2, "--json"),
     (["ls", "--sha256", "--types", "FILE"], 2, "--types"),
     (["check", "--sha256", "FILE"], 2, "--sha256"),
@@ -255,17 +257,17 @@ LINES = [
     (["info", "--json", "FILE", "FILE"], 0, ""),
     (["check", "FILE", "FILE"], 0, ""),
     (["check"], 2, "Usage"),
-    (["check", "NO_SUCH_FILE"], 4, "NO_SUCH_FILE"),
+    (["check", "NO_SUCH_FILE"], *refusal("NO_SUCH_FILE", "unreadable", MISSING)),
     (["salvage", "FILE"], 0, ""),
     (["salvage", "--list", "FILE"], 0, ""),
     (["salvage", "--list", "FILE", "-o", "OUT"], 2, "--list"),
     (["salvage", "--list", "FILE", "--data", "OUT"], 2, "--list"),
     (["salvage", "FILE", "--data", "OUT", "-o", "OUT"], 2, "--data"),
-    (["salvage", "FILE", "--data", "OUT"], 3, "a resource fork: it has no data fork"),
+    (["salvage", "FILE", "--data", "OUT"], 3, f"FILE: {message('raw')}: {message('no data')}\n"),
     (["salvage", "FILE", "FILE"], 2, "Usage"),
     (["salvage", "FILE", "-o", "NO_SUCH_FOLDER/out"], 4, "-o"),
-    (["ls", "NO_SUCH_FILE"], 4, "NO_SUCH_FILE"),
-    (["ls", "NO_SUCH_FILE", "FILE"], 4, "NO_SUCH_FILE"),
+    (["ls", "NO_SUCH_FILE"], *refusal("NO_SUCH_FILE", "unreadable", MISSING)),
+    (["ls", "NO_SUCH_FILE", "FILE"], *refusal("NO_SUCH_FILE", "unreadable", MISSING)),
     (["get", "FILE", "TEXT", "5", "-o", "NO_SUCH_FOLDER/out"], 4, "-o"),
 ]
 
@@ -314,7 +316,7 @@ def try_get(program, path, rows, kind, words, is_it):
     found = next((row.data for row in rows if row.kind == kind and is_it(row)), None)
     got = run(program, ["get", path, *words])
     if found is None:
-        compare(f"get {words}", got, 1, b"", "there is no resource ")
+        compare(f"get {words}", got, 1, b"", f"{path}: {message('no resource', '')}")
     else:
         compare(f"get {words}", got, 0, found, "")
 
@@ -353,7 +355,12 @@ def try_lines(program, path):
         file.write(one_map([(b"TEXT", 1)], struct.pack(">hHBBHI", 5, 0xFFFF, 0, 0, 0, 0)))
     for words, status, told in LINES:
         words = [path if it == "FILE" else it for it in words]
-        compare(" ".join(words), run(program, words), status, None, told)
+        compare(" ".join(words), run(program, words), status, None, re.sub("^FILE:", f"{path}:", told))
+    ours, terminal = os.openpty()
+    done = subprocess.run([program, "get", path, "TEXT", "5"], stdout=terminal, stderr=subprocess.PIPE, text=True, check=False)
+    compare("get to a terminal", (done.returncode, b"", done.stderr), 2, b"", refusal(path, "terminal")[1])
+    os.close(ours)
+    os.close(terminal)
 
 
 def forks(first, count):

@@ -13,6 +13,7 @@ import tempfile
 from checks.fork_questions import Difference
 from checks.forks import Choices, compare, run
 from model.fork import NoFork, column, listing, quoted, read_fork, types
+from model.messages import message
 
 NAME, KIND, CREATOR, DATA = b"Caf\x8e", b"APPL", b"a\xa9b ", bytes(range(200))
 DIGITS = b"!\"#$%&'()*+,-012345689@ABCDEFGHIJKLMNPQRSTUVXYZ[`abcdefhijklmpqr"
@@ -76,12 +77,12 @@ def bin_hex_of(data, fork):
 
 # what a fork is kept in, what that is called, and how many bytes of data fork it has
 KEPT = [
-    (apple_single, "an AppleSingle file", len(DATA)),
-    (apple_double, "an AppleDouble file", 0),
-    (lambda fork: mac_binary(1, fork), "a MacBinary file", len(DATA)),
-    (lambda fork: mac_binary(2, fork), "a MacBinary II file", len(DATA)),
-    (lambda fork: mac_binary(3, fork), "a MacBinary III file", len(DATA)),
-    (bin_hex, "a BinHex file", len(DATA)),
+    (apple_single, message("applesingle"), len(DATA)),
+    (apple_double, message("appledouble"), 0),
+    (lambda fork: mac_binary(1, fork), message("macbinary I"), len(DATA)),
+    (lambda fork: mac_binary(2, fork), message("macbinary II"), len(DATA)),
+    (lambda fork: mac_binary(3, fork), message("macbinary"), len(DATA)),
+    (bin_hex, message("binhex"), len(DATA)),
 ]
 
 
@@ -118,8 +119,8 @@ DAMAGED = bytes.fromhex(
     f"00000100 00000106 00000006 00000032 {bytes(240).hex()} 00FFFFFF 4869"
     "00000100 00000106 00000006 00000032 00000000 0000 0000 001C 0032 0000 54455854 0000 000A 0080 FFFF 00 000000 00000000"
 )
-FAULT = "'TEXT' 128: its length is 16777215, and 2 bytes are left in the data\n  at $000100, reached from the reference at $00012C\n"
-LEFT = "  0 of 1 resources can be read\n"
+FAULT = message("datum", "'TEXT'", 128, 16777215, 2, "000100", "00012C") + "\n"
+LEFT = f"  {message('readable', message('tally', 0, 1))}\n"
 
 
 def try_damaged(program, path):
@@ -129,18 +130,18 @@ def try_damaged(program, path):
         compare(f"{words[0]} of a damaged fork", run(program, words), 3, b"", f"{path}: {FAULT}{LEFT}")
     for keep, kept_as, _ in KEPT:
         write(path, keep(DAMAGED))
-        told = f"{path}: {FAULT}  (places are those in the resource fork of {kept_as})\n{LEFT}"
+        told = f"{path}: {FAULT}  {message('within', kept_as)}\n{LEFT}"
         compare(f"ls of {kept_as} with a damaged fork", run(program, ["ls", path]), 3, b"", told)
 
 
 # files that hold no resource fork, with words of what is said
 NONE = [
-    ("a text", b"no fork at all, but a text of more than sixteen bytes", "neither a resource fork"),
-    ("AppleDouble without one", apple(0x51607, [(9, finder_info())]), "it has no resource fork"),
-    ("MacBinary without one", mac_binary(2, b""), "it has no resource fork"),
-    ("BinHex without one", bin_hex(b""), "it has no resource fork"),
-    ("a zip archive", b"PK\x03\x04" + bytes(60), "a zip archive, which resfork doesn't unpack: unzip "),
-    ("a gzip file", b"\x1f\x8b\x08" + bytes(60), "a gzip file, which resfork doesn't unpack: gunzip -k "),
+    ("a text", b"no fork at all, but a text of more than sixteen bytes", message("unknown")),
+    ("AppleDouble without one", apple(0x51607, [(9, finder_info())]), message("absent")),
+    ("MacBinary without one", mac_binary(2, b""), message("absent")),
+    ("BinHex without one", bin_hex(b""), message("absent")),
+    ("a zip archive", b"PK\x03\x04" + bytes(60), message("archive", message("zip"), message("unzip").removesuffix("FILE"))),
+    ("a gzip file", b"\x1f\x8b\x08" + bytes(60), message("archive", message("gzip"), message("gunzip").removesuffix("FILE"))),
 ]
 
 

@@ -16,14 +16,14 @@ from checks.fork_questions import Difference
 from checks.kept import DATA, apple, apple_single, bin_hex
 from checks.replaced import Bench
 from measured import Measure
+from model.messages import MISSING, message, refusal
 from places import TOP
 
 SAMPLE = os.path.join(TOP, "crates/resfork/data/sample.rsrc")
 NOBODY = 65534
 # the bytes that a refusal of a long file may take; and that a program gets at most
 BYTES, MOST = 64 << 20, 4 << 30
-MESSAGE = re.compile(r"resfork salvage (.*) -o OUT\n\Z", re.S)
-TOO_LONG = "{}: is longer than the limit of {} bytes; --limit SIZE reads more\n"
+MESSAGE = re.compile(message("salvage", "", "(.*)") + r"\n\Z", re.S)
 NAMES = [
     "plain.rsrc", "with blank", " leading", "trailing ", '"quote', 'a"quote', "back\\slash", "\\x1B", "\x1b[31mred", "new\nline", "tab\t", "del\x7f", "c1\u0085x\u009b",
     "bidi\u202egpj", "alm\u061c", "lrm\u200e", "ls\u2028ps\u2029", "iso\u2066x\u2069", "bom\ufeff", "-dash", "-", "--", "-\x1b", "it's", "it's\n\\x41!'7", "$(touch x)", "`id`", "~home",
@@ -132,35 +132,36 @@ def archives(room):
     room.write("it's a\x1b.sit", b"SIT!\0\1\0\0\0\x20rLau" + bytes(100))
     status, _, said = room.run("ls", "it's a\x1b.sit")
     must("the status of an archive", status, 3)
-    must("what bash reads", typed_back(said.rstrip("\n").split("unar -k hidden ")[1]), b"it's a\x1b.sit")
+    must("what bash reads", typed_back(said.rstrip("\n").split(message("unar").removesuffix("FILE"))[1]), b"it's a\x1b.sit")
     status, _, said = room.run("ls", "-", stdin=open(room.path("it's a\x1b.sit"), "rb"))  # pylint: disable=consider-using-with
-    must("the standard input in advice", said.rstrip("\n").endswith("unar -k hidden -"), True)
+    must("the standard input in advice", said.rstrip("\n").endswith(message("unar").replace("FILE", "-")), True)
 
 
 def others(room):
     """Names that messages have beside the file's, and those on the standard output."""
     room.write("a\x1bb", damaged())
-    must("salvage", room.run("salvage", "a\x1bb", "-o", "c\x1bd")[2], '"a\\x1Bb": 3 of 4 resources can be read, and are written to "c\\x1Bd"\n')
+    must("salvage", room.run("salvage", "a\x1bb", "-o", "c\x1bd")[2], '"a\\x1Bb": ' + message("written", message("tally", 3, 4), '"c\\x1Bd"') + "\n")
     os.mkdir(room.path("f\x1b"))
-    must("a folder", room.run("pack", "f\x1b", "out")[2], '"f\\x1B": "f\\x1B/resources.json" can\'t be read: No such file or directory (os error 2)\n')
+    folder = '"f\\x1B": '
+    must("a folder", room.run("pack", "f\x1b", "out")[2], folder + '"f\\x1B/resources.json" ' + message("unreadable", MISSING) + "\n")
     room.write("f\x1b/resources.json", b"\xff")
-    must("a manifest", room.run("pack", "f\x1b", "out")[2], '"f\\x1B": "f\\x1B/resources.json" is no UTF-8 text\n')
+    must("a manifest", room.run("pack", "f\x1b", "out")[2], folder + message("not UTF-8", '"f\\x1B/resources.json"') + "\n")
     room.write("s\x1b", apple_single(room.read("good")))
     must("convert", room.run("convert", "s\x1b", "n\x1b", "--to", "binhex", "--lossy")[1].split(": ")[0], '"n\\x1B"')
     with open(room.path("text"), "wb") as text:
         room.run("derez", "good", stdout=text)
     must("rez over a container", room.run("rez", "text", "-o", "s\x1b")[2].split(": ")[0], '"s\\x1B"')
-    must("a folder with files", room.run("unpack", "good", "f\x1b")[2], 'good: not unpacked: there are files in "f\\x1B", and nothing is overwritten; name a new folder\n')
-    must("no folder", room.run("unpack", "good", "n\n/x")[2], 'good: not unpacked: the folder "n\\x0A/x" can\'t be made: No such file or directory (os error 2)\n')
+    must("a folder with files", room.run("unpack", "good", "f\x1b")[2], refusal("good", "files there", '"f\\x1B"')[1])
+    must("no folder", room.run("unpack", "good", "n\n/x")[2], refusal("good", "no folder", '"n\\x0A/x"', MISSING)[1])
     room.write("f\x1b/resources.json", manifest("../a\nb"))
-    must("an entry", room.run("pack", "f\x1b", "out")[2], '"f\\x1B": what it says of the resource in "../a\\x0Ab" is bad: its file isn\'t one in a folder of the folder\n')
+    must("an entry", room.run("pack", "f\x1b", "out")[2], folder + message("bad entry", '"../a\\x0Ab"', message("entry's file")) + "\n")
     room.write("f\x1b/resources.json", manifest("TEXT/a\nb"))
-    must("no file", room.run("pack", "f\x1b", "out")[2], '"f\\x1B": "f\\x1B/TEXT/a\\x0Ab" can\'t be read: No such file or directory (os error 2)\n')
+    must("no file", room.run("pack", "f\x1b", "out")[2], folder + '"f\\x1B/TEXT/a\\x0Ab" ' + message("unreadable", MISSING) + "\n")
     room.write("f\x1b/resources.json", manifest())
     text = bin_hex(room.read("good"))
     room.write("cut\x1b", text[: len(text) // 2])
     said = room.run("pack", "--like", "cut\x1b", "f\x1b", "out")
-    must("a text that is cut", (said[0], said[2].split(": ")[:2]), (4, ['"cut\\x1B"', "not written"]))
+    must("a text that is cut", (said[0], said[2].startswith('"cut\\x1B": ' + message("unwritten", ""))), (4, True))
 
 
 def words(room):
@@ -189,17 +190,17 @@ def limits(room, measure):
     for limit, status in ((size, 0), (size - 1, 4)):
         for source in (["good"], ["-"]):
             got = room.run("info", "--limit", str(limit), *source, **({"stdin": subprocess.PIPE} if source == ["good"] else {"stdin": open(room.path("good"), "rb")}))  # pylint: disable=consider-using-with
-            must(f"--limit {limit} of {source}", (got[0], got[2]), (status, "" if status == 0 else TOO_LONG.format(source[0], limit)))
+            must(f"--limit {limit} of {source}", (got[0], got[2]), (status, "" if status == 0 else refusal(source[0], "too long", limit)[1]))
     is_sparse = sparse(room)
     for words, said in (
-        (["ls", "sparse"], TOO_LONG.format("sparse", 1 << 30)),
-        (["rm", "sparse", "TEXT", "128"], TOO_LONG.format("sparse", 1 << 30)),
-        (["ls", "--limit", "1M", "/dev/zero"], TOO_LONG.format("/dev/zero", 1 << 20)),
-        (["info", "--limit=8M", "/dev/zero"], TOO_LONG.format("/dev/zero", 8 << 20)),
-        (["diff", "--limit=2K", "good", "/dev/zero"], TOO_LONG.format("/dev/zero", 2048)),
-        (["put", "good", "TEXT", "128", "-i", "sparse"], TOO_LONG.format("sparse", 1 << 30)),
-        (["convert", "--limit", "1G", "--to", "macbinary", "--data", "sparse", "good", "new"], "good: sparse is longer than the limit of 1073741824 bytes; --limit SIZE reads more\n"),
-        (["rez", "text", "-o", "sparse"], "text: sparse is longer than the limit of 1073741824 bytes; --limit SIZE reads more\n"),
+        (["ls", "sparse"], refusal("sparse", "too long", 1 << 30)[1]),
+        (["rm", "sparse", "TEXT", "128"], refusal("sparse", "too long", 1 << 30)[1]),
+        (["ls", "--limit", "1M", "/dev/zero"], refusal("/dev/zero", "too long", 1 << 20)[1]),
+        (["info", "--limit=8M", "/dev/zero"], refusal("/dev/zero", "too long", 8 << 20)[1]),
+        (["diff", "--limit=2K", "good", "/dev/zero"], refusal("/dev/zero", "too long", 2048)[1]),
+        (["put", "good", "TEXT", "128", "-i", "sparse"], refusal("sparse", "too long", 1 << 30)[1]),
+        (["convert", "--limit", "1G", "--to", "macbinary", "--data", "sparse", "good", "new"], f"good: sparse {message('too long', 1 << 30)}\n"),
+        (["rez", "text", "-o", "sparse"], f"text: sparse {message('too long', 1 << 30)}\n"),
     ):
         if not is_sparse and "sparse" in words:
             continue
@@ -215,7 +216,7 @@ def limits(room, measure):
         must(f"{words} with a limit", room.run(words[0], "--limit", "9", *words[1:])[0], wanted)
         must(f"what {words} left", (sorted(os.listdir(room.folder)), room.read("good")), (before, open(SAMPLE, "rb").read()))  # pylint: disable=consider-using-with
     for word in ("", "+5", "-5", "5k", "5T", "K", "1.5M", "0x10", "17179869184G", "99999999999999999999"):
-        must(f"--limit {word!r}", room.run("info", f"--limit={word}", "good")[0], 2)
+        must(f"--limit {word!r}", room.run("info", f"--limit={word}", "good")[::2], refusal("error", "bad limit"))
     for word in ("17179869183G", "18446744073709551615", "0009999"):
         must(f"--limit {word!r}", room.run("info", f"--limit={word}", "good")[0], 0)
 
@@ -226,7 +227,7 @@ def outputs(room):
         print("names: how long a file may be isn't tried: there is no /proc, which says it")
         return
     whole = room.run("info", "good")[1].encode()
-    said = "good: the output can't be written: file too large\n"
+    said = refusal("good", "no output", "file too large")[1]
     for old, most, mode in ((0, len(whole), "wb"), (0, len(whole) - 1, "wb"), (0, 0, "wb"), (50, 50 + len(whole), "ab"), (50, 49 + len(whole), "ab"), (50, 10, "ab")):
         room.write("out", bytes(old))
         with open(room.path("out"), mode) as out:
@@ -252,7 +253,7 @@ def one_file(room):
         os.link(room.path("Game"), room.path("hard"))
         for output, data in ((second, "Game"), ("Game", second)):
             got = room.run("convert", "Game", output, "--to", "raw", "--data", data)
-            must(f"{output} and {data} are one", (got[0], got[2], room.read("Game")), (2, "Game: the data fork would take the place of the file that is written\n", old))
+            must(f"{output} and {data} are one", (got[0], got[2], room.read("Game")), (*refusal("Game", "one file"), old))
             got = room.run("convert", "Game", output, "--to", "raw", "--data", data, "-n")
             must(f"{output} and {data} are one, with -n", got[0], 2)
         new = "./new" if second == "./Game" else "new"
@@ -293,10 +294,10 @@ def losses(room, bench):
     """What is said before a file is replaced."""
     edit = ("set", "good", "STR", "0", "--id")
     os.link(room.path("good"), room.path("name"))
-    must("two names", room.run(*edit, "7")[2], "good: has 2 names; the other names keep the old file\n")
+    must("two names", room.run(*edit, "7")[2], f"good: {message('links', 2)}\n")
     must("one name", room.run("set", "good", "STR", "7", "--id", "8")[2], "")
     os.link(room.path("name"), room.path("third\x1b"))
-    must("-o over a file of two names", room.run("get", "good", "TEXT", "128", "-o", "third\x1b")[2], '"third\\x1B": has 2 names; the other names keep the old file\n')
+    must("-o over a file of two names", room.run("get", "good", "TEXT", "128", "-o", "third\x1b")[2], '"third\\x1B": ' + message("links", 2) + "\n")
     if why := another_group(room, bench):
         print(f"names: what is said where the group changes isn't tried: {why}")
 
@@ -310,7 +311,7 @@ def another_group(room, bench):
     os.chown(room.folder, NOBODY, NOBODY)
     os.chmod(room.path("good"), 0o664)
     said = room.run("set", "good", "STR", "8", "--id", "9", **how)
-    must("another group", said[2], f"good: will belong to the group {NOBODY}, and no more to the group 1234\n")
+    must("another group", said[2], f"good: {message('new owner', f'group {NOBODY}', 'group 1234')}\n")
     os.chown(room.folder, 0, 0)
     return None
 

@@ -14,13 +14,14 @@ import tempfile
 from checks.fork_questions import Difference
 from measured import Measure, slowness
 from model.fork import FORMAT, NoFork, listing, read_fork, types
+from model.messages import message, refusal
 
 # seconds of a machine that is as fast as usual, and bytes
 SECONDS, BYTES = 1, 64 << 20
 # no run may write more to a file than this
 WRITTEN = 8 << 20
 NAME = bytes(255)
-MORE = "-         -        ? more can't be read: the map has no room for so many\n"
+MORE = message("more") + "\n"
 # types, and references in the one list of them all
 LARGE = [(1000, 512), (8000, 512)]
 # how many bytes come after the lists of the forks at the limit
@@ -70,7 +71,7 @@ def must(holds, what):
 
 def told_of(count, map_length):
     """What is said of too many resources."""
-    return f"there are {count} resources in a map of {map_length} bytes, and at most {map_length // 12} are read"
+    return message("row count", count, map_length, map_length // 12)
 
 
 def try_limit(bench, after):
@@ -92,7 +93,8 @@ def try_limit(bench, after):
             raise Difference(f"the model reads {len(read_fork(fork, FORMAT))} resources")
         except NoFork as fault:
             must(fault.args[0] == "rows", f"the model refuses them for {fault.args[0]}")
-        told = f"fork: {told_of(room + 1, length)}\n  {room} of at least {room + 1} resources can be read: resfork salvage fork -o OUT\n"
+        tally = message("tally of more", room, room + 1)
+        told = refusal("fork", "salvage", f"{told_of(room + 1, length)}\n  {message('readable', tally)}", "fork")[1]
         must(shown == (3, "", told), f"ls of {room + 1} resources: {shown}, and not {told!r}")
         must(by_types == (3, "", told), f"ls --types of {room + 1} resources: {by_types}")
         # all but the last, which alone is of the third type
@@ -101,7 +103,7 @@ def try_limit(bench, after):
         salvaged = bench.run(["salvage", "fork"])
         must(salvaged == (0, listing(rows) + MORE, ""), f"salvage of {room + 1} resources: {salvaged}")
         salvaged = bench.run(["salvage", "fork", "-o", "saved"])
-        told = f"fork: {room} of at least {room + 1} resources can be read, and are written to saved\n"
+        told = f"fork: {message('written', tally, 'saved')}\n"
         must(salvaged == (0, "", told), f"salvage -o of {room + 1} resources: {salvaged}")
         saved = bench.run(["ls", "saved"])
         must(saved == (0, listing(rows), ""), f"ls of what is salvaged: {saved}")
@@ -117,8 +119,8 @@ def try_large(bench, kinds, count):
         file.write(b"")
     most = length // 12
     told = told_of(kinds * count, length)
-    error = f"{told}\n  {most} of at least {most + 1} resources can be read"
-    refused = f"{error}: resfork salvage fork -o OUT\n"
+    error = f"{told}\n  {message('readable', message('tally of more', most, most + 1))}"
+    refused = message("salvage", error, "fork") + "\n"
     kind = struct.pack(">I", 0x41414141).decode()
     commands = [
         ["ls", "fork"], ["ls", "--types", "fork"], ["ls", "--raw", "fork"], ["ls", "-t", kind, "fork"], ["get", "fork", kind, "0"], ["show", "fork"],
@@ -143,7 +145,7 @@ def try_large(bench, kinds, count):
         must((status, said, len(lines), lines[-1]) == (0, "", most + 1, MORE), f"{' '.join(words)}: status {status}, {len(lines)} lines, it told {said!r}")
     # each resource needs a name of its own in what is written, and two bytes hold no offset of the last ones
     status, _, said = bench.run(["salvage", "fork", "-o", "mended"])
-    must(status != 0 and said.startswith("fork: ") and not os.path.exists(bench.path("mended")), f"salvage -o: status {status}, it told {said!r}")
+    must((status, said) == refusal("fork", "too much") and not os.path.exists(bench.path("mended")), f"salvage -o: status {status}, it told {said!r}")
     for kept_as in ("applesingle", "macbinary", "binhex", "raw"):
         status, _, said = bench.run(["convert", "--to", kept_as, "fork", f"as_{kept_as}"])
         must(status == 0, f"convert --to {kept_as}, which carries any fork: status {status}, it told {said!r}")

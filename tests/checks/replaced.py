@@ -15,6 +15,7 @@ import subprocess
 import tempfile
 
 from checks.kept import KEPT
+from model.messages import message, pattern
 from model.toolbox import File, Row
 from places import INTERPOSE
 
@@ -155,7 +156,7 @@ class Bench:
                 fault = run.fault(job, *wanted)
                 if fault is None and "n" not in whole.calls[turn - 1 :].removesuffix("Y") and what == "fails" and letter == "Y" and job.backup is None:
                     # after the rename the new file is there, and what isn't sure is reported
-                    fault = None if run.files["f"] == job.new and "synced" in run.message else f"after {run.calls} it says {run.message}"
+                    fault = None if run.files["f"] == job.new and pattern("not synced").search(run.message) else f"after {run.calls} it says {run.message}"
                 yield f"call {turn}, {letter}, {what}", fault
 
     def full(self, job):
@@ -163,9 +164,9 @@ class Bench:
         size = len(job.new)
         for room in sorted({0, 1, size // 2, size - 1}):
             run = Run(self, job, REPLACE_ROOM=room)
-            yield f"room for {room} bytes", run.fault(job, job.old) or (None if run.status == 4 else f"status {run.status}")
+            yield f"room for {room} bytes", run.fault(job, job.old) or (None if run.status == 4 and pattern("new unwritten").search(run.message) else f"status {run.status}")
             run = Run(self, job, limit=room)
-            yield f"files of {room} bytes at most", run.fault(job, job.old) or (None if run.status == 4 else f"status {run.status}: {run.message}")
+            yield f"files of {room} bytes at most", run.fault(job, job.old) or (None if run.status == 4 and pattern("new unwritten").search(run.message) else f"status {run.status}: {run.message}")
 
     def small_disk(self, job):
         """A real disk that is too small, where the machine lets one be mounted."""
@@ -224,7 +225,7 @@ class Bench:
     def busy(self, job):
         """A file that can't be renamed over, as where another is mounted on it."""
         run = Run(self, job, REPLACE_BUSY="f")
-        ok = run.status == 4 and "-o" in run.message and not any(name.startswith(NEW) for name in run.names)
+        ok = run.status == 4 and pattern("not renamed").search(run.message) and not any(name.startswith(NEW) for name in run.names)
         yield "where something is mounted", run.fault(job, job.old) or (None if ok else f"status {run.status}, {run.names}: {run.message}")
 
     def swept_up(self, job):
@@ -268,13 +269,13 @@ class Bench:
 
         run = Run(self, job, ready=lock)
         run.said.close()
-        yield "a lock", run.fault(job, job.old) or (None if run.status == 4 and "at work" in run.message else f"status {run.status}: {run.message}")
+        yield "a lock", run.fault(job, job.old) or (None if run.status == 4 and message("in use") in run.message else f"status {run.status}: {run.message}")
 
     def unwritable(self, job):
         """A folder in which no file can be made: the message names -o."""
         if os.getuid() != 0:
             run = Run(self, job, ready=lambda folder: os.chmod(folder, 0o555))
-            yield "a folder that can't be written", run.fault(job, job.old) or (None if "-o" in run.message else run.message)
+            yield "a folder that can't be written", run.fault(job, job.old) or (None if pattern("none beside").search(run.message) else run.message)
 
 
 def unchanged(bench, job):

@@ -18,9 +18,11 @@ from checks.fork_questions import Difference
 from checks.forks import Choices, run
 from model.container import TOLD, NoContents, in_spite, resource_fork
 from model.contents import WRITERS, Contents
-from model.fork import FORMAT, MESSAGES, OTHER, NoFork, Row, listing, read_fork
+from model.fork import FORMAT, MESSAGES, NoFork, Row, listing, read_fork
+from model.messages import message, refusal
 
 FORKS, CHANGES, SHARE = 3, 300, 0.95
+OTHER = message("unknown")
 KINDS = [b"TEXT", b"STR ", b"CODE", b"ICN#", b"snd ", b"PAT#", b"vers", b"DITL"]
 
 
@@ -80,7 +82,7 @@ def salvaged(program, path, fork):
         os.remove(out)
     status, _, told = run(program, ["salvage", path, "-o", out])
     if status == 3:
-        must("no resource can be read" in told and not os.path.exists(out), f"salvage told {told!r}")
+        must(message("nothing read") in told and not os.path.exists(out), f"salvage told {told!r}")
         return None
     must(status == 0, f"salvage ended with {status} and told {told!r}")
     with open(out, "rb") as file:
@@ -161,7 +163,7 @@ def try_twice(program, path):
     found = salvaged(program, path, fork)
     must([(it.kind, it.ident) for it in found] == [(b"TEXT", 1), (b"TEXT", 2), (b"TEXT", 4), (b"STR ", 3)], "the rows of a type that stands twice")
     status, text, _ = run(program, ["check", path])
-    must(status == 3 and b"'TEXT' is twice in the type list" in text, f"check told {text!r}")
+    must(status == 3 and message("same type", "'TEXT'", "", "").split("\n")[0] in text.decode(), f"check told {text!r}")
     status, text, _ = run(program, ["salvage", "--list", path])
     must(status == 0 and [it.split()[1] for it in text.decode().splitlines()] == ["1", "2", "3", "4"], f"salvage --list wrote {text!r}")
 
@@ -182,7 +184,9 @@ def try_several_faults(program, path):
     must(status == 3 and told.count("fault: ") == 3 and all(it in told for it in places), f"check told {told!r}, and not {places}")
     status, text, _ = run(program, ["salvage", path])
     lines = text.decode().splitlines()
-    must(status == 0 and sum("can't be read" in it for it in lines) == 2 and sum("its name" in it for it in lines) == 1, f"salvage wrote {lines}")
+    lost = [message("lost bytes", message("gap", length, place, left)) for length, place, left in ((1000, places[0], 28), (2000, places[1], 4))]
+    unread = [message("not read", f"TEXT {it:>6}", why, f"${map_at + 38 + 12 * it:06X}") for it, why in zip((1, 4), lost)]
+    must(status == 0 and [it for it in lines if "?" in it] == unread and lines[3] == "  " + message("lost name", places[2]), f"salvage wrote {lines}")
 
 
 def try_odd(program, path):
@@ -190,14 +194,15 @@ def try_odd(program, path):
     rows = [Row(b"TEXT", it, None, 0, b"abcd") for it in range(3)]
     save(path, written([(b"TEXT", rows)], gap=bytes(10)))
     status, text, _ = run(program, ["check", path])
-    must((status, text) == (0, f"warning: 10 bytes among the data belong to no resource\n  at ${256 + 16:06X}\n".encode()), f"check told {text!r}")
+    must((status, text) == (0, f"warning: {message('of none', 10, 'data', f'${256 + 16:06X}')}\n".encode()), f"check told {text!r}")
     fork = bytearray(written([(b"TEXT", rows)]))
     reference = struct.unpack(">I", fork[4:8])[0] + 28 + 2 + 8 + 12
     fork[reference + 5 : reference + 8] = bytes(3)  # the second has the bytes of the first
     save(path, bytes(fork))
     status, text, _ = run(program, ["check", "--json", path])
     warnings = [(it["message"].split("\n")[0], it["place"]) for it in json.loads(text)["warnings"]]
-    must((status, warnings) == (0, [("the data of two resources overlap", 256), ("8 bytes among the data belong to no resource", 264)]), f"check told {text!r}")
+    wanted = [(message("overlap", "data", "", "", "").split("\n")[0], 256), (message("of none", 8, "data", "").split("\n")[0], 264)]
+    must((status, warnings) == (0, wanted), f"check told {text!r}")
     # the second and the third lie within the first, and not within each other
     inner = [struct.pack(">I", 1) + b"x", struct.pack(">I", 1) + b"y"]
     rows = [Row(b"TEXT", 0, None, 0, bytes(5).join(inner)), *(Row(b"TEXT", it, None, 0, b"z") for it in (1, 2))]
@@ -207,7 +212,7 @@ def try_odd(program, path):
         fork[first + 12 * it + 5 : first + 12 * it + 8] = at.to_bytes(3, "big")
     save(path, bytes(fork))
     status, text, _ = run(program, ["check", path])
-    lines = [f"warning: the data of two resources overlap\n  at ${256 + at:06X}, reached from the references at ${first:06X} and ${first + 12 * it:06X}\n" for it, at in ((1, 4), (2, 14))]
+    lines = [f"warning: {message('overlap', 'data', *(f'${place:06X}' for place in (256 + at, first, first + 12 * it)))}\n" for it, at in ((1, 4), (2, 14))]
     must((status, text.decode()) == (0, "".join(lines)), f"check told {text!r}")
 
 
@@ -222,7 +227,7 @@ def try_lost_map(program, path):
     must(status == 0 and sizes == [1, 2, 3, 4], f"salvage wrote {text!r}")
 
 
-CONTAINERS = {"applesingle": "an AppleSingle file", "appledouble": "an AppleDouble file", "macbinary": "a MacBinary III file", "binhex": "a BinHex file"}
+CONTAINERS = ["applesingle", "appledouble", "macbinary", "binhex"]
 
 
 def held_file():
@@ -272,12 +277,13 @@ def try_spoiled(program, path, kind, what, file, rows):
             os.remove(out)
         save(path, file)
         status, output, said = run(program, ["salvage", path, *words])
-        begins = f"{path}: {CONTAINERS[kind]}: "
-        must(said.startswith(begins) and told.match(said, len(begins)), f"{what}: salvage {words} told {said!r}")
+        begins = f"{path}: {message(kind)}: "
+        fault = told.match(said, len(begins))
+        must(said.startswith(begins) and fault, f"{what}: salvage {words} told {said!r}")
         if part is None:
             must((status, output) == (3, b"") and not os.path.exists(out), f"{what}: salvage {words} ended with {status} and wrote {output!r}")
             continue
-        must(f"\n  {len(part[1])} of the {part[0]} bytes of its {name} are read\n" in said, f"{what}: salvage {words} told {said!r}")
+        must(refusal(path, "damaged container", message(kind), fault.group(), len(part[1]), part[0], name)[1] in said, f"{what}: salvage {words} told {said!r}")
         if name == "data fork":
             with open(out, "rb") as saved:
                 must((status, saved.read()) == (0, part[1]), f"{what}: salvage {words} wrote another data fork")
@@ -289,7 +295,7 @@ def try_spoiled(program, path, kind, what, file, rows):
     # where something is written, each other command names salvage
     words = ASKED[len(what) % len(ASKED)]
     said = run(program, [words[0], path, *words[1:]])
-    must((said[0], said[1]) == (3, b"") and said[2].startswith(begins) and said[2].endswith(f": resfork salvage {path} -o OUT\n") == (status == 0), f"{what}: {words} told {said}")
+    must((said[0], said[1]) == (3, b"") and said[2].startswith(begins) and said[2].endswith(message("salvage", "", path) + "\n") == (status == 0), f"{what}: {words} told {said}")
     if resource is None or resource[1] != WHOLE:
         return False
     with open(out, "rb") as saved:
@@ -312,7 +318,7 @@ def try_containers(program, path):
         must(run(program, ["salvage", path]) == (0, listing(rows).encode(), ""), f"salvage of {kind} without a fault")
         status, _, told = run(program, ["salvage", path, "--data", path + ".out"])
         if kind == "appledouble":
-            must((status, told) == (3, f"{path}: an AppleDouble file: it has no data fork\n"), f"salvage --data of {kind} told {told!r}")
+            must((status, told) == (3, f"{path}: {message(kind)}: {message('no data')}\n"), f"salvage --data of {kind} told {told!r}")
         else:
             with open(path + ".out", "rb") as saved:
                 must((status, told, saved.read()) == (0, "", it.data), f"salvage --data of {kind} ended with {status} and told {told!r}")
@@ -330,10 +336,10 @@ def not_forks():
     yield "zeros", bytes(5000), OTHER
     for size in (17, 300, 5000, 100000):
         yield f"{size} random bytes", choices.randbytes(size), OTHER
-    yield "an old StuffIt archive", b"SIT!" + bytes(6) + b"rLau" + choices.randbytes(500), "a StuffIt archive, which resfork doesn't unpack: unar -k hidden "
-    yield "a StuffIt archive", b"StuffIt (c)1997-1998 Aladdin Systems, Inc." + choices.randbytes(500), "a StuffIt archive, which resfork doesn't unpack: unar -k hidden "
-    yield "a disk image", bytes(1024) + b"BD" + choices.randbytes(3000), "a HFS volume, which resfork doesn't unpack: hmount "
-    yield "a DiskCopy image", b"\4Disk" + bytes(59) + choices.randbytes(18) + b"\1\0" + choices.randbytes(3000), "a DiskCopy 4.2 image, which resfork doesn't unpack: tail -c +85 "
+    yield "an old StuffIt archive", b"SIT!" + bytes(6) + b"rLau" + choices.randbytes(500), message("archive", message("StuffIt"), message("unar").removesuffix("FILE"))
+    yield "a StuffIt archive", b"StuffIt (c)1997-1998 Aladdin Systems, Inc." + choices.randbytes(500), message("archive", message("StuffIt"), message("unar").removesuffix("FILE"))
+    yield "a disk image", bytes(1024) + b"BD" + choices.randbytes(3000), message("archive", message("HFS"), message("hmount").partition("FILE")[0])
+    yield "a DiskCopy image", b"\4Disk" + bytes(59) + choices.randbytes(18) + b"\1\0" + choices.randbytes(3000), message("archive", message("DiskCopy"), message("tail").partition("FILE")[0])
 
 
 def try_not_forks(program, path):
@@ -351,11 +357,11 @@ def try_not_forks(program, path):
         must(not os.path.exists(out), f"{what}: something was written")
     save(path, written([]))
     status, output, said = run(program, ["salvage", path, "--data", out])
-    must((status, output, said) == (3, b"", f"{path}: a resource fork: it has no data fork\n"), f"salvage --data of a fork told {said!r}")
+    must((status, output, said) == (3, b"", f"{path}: {message('raw')}: {message('no data')}\n"), f"salvage --data of a fork told {said!r}")
     # a fork in which nothing is found: the header alone
     save(path, struct.pack(">4I", 256, 512, 256, 100))
     for words in ([], ["-o", out]):
-        must(run(program, ["salvage", path, *words]) == (3, b"", f"{path}: no resource can be read\n"), "salvage of a header alone")
+        must(run(program, ["salvage", path, *words]) == (3, b"", refusal(path, "nothing read")[1]), "salvage of a header alone")
 
 
 def main(program):

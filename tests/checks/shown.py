@@ -8,6 +8,7 @@ import hashlib
 import json
 import os
 import random
+import re
 import struct
 import tempfile
 
@@ -15,6 +16,7 @@ from checks.fork_questions import Difference
 from checks.forks import Choices, compare, run
 from checks.parts import whole
 from model.fork import NoFork, Row, listing, read_fork
+from model.messages import MISSING, message, refusal
 from model.shown import dots, file_name, folder_name, read_png
 
 RANDOM = random.Random(7)
@@ -53,38 +55,38 @@ TEXTS = [
     (b"ICON", b"\0", "000000  00" + " " * 47 + ".\n"),
 ]
 
-# command lines, with their status and words of what is said
+# command lines, with their status and what is said, or words of it
 LINES = [
-    (["show", "FILE", "STR ", "2", "--as", "text"], 2, "--as hex"),
-    (["show", "FILE", "snd ", "1", "--as", "png"], 2, "no picture"),
-    (["show", "FILE", "ICON", "--as", "png"], 2, "one picture"),
-    (["show", "FILE", "--as", "png"], 2, "one picture"),
-    (["show", "FILE", "ICON", "1", "--as", "gif"], 2, "--as"),
-    (["show", "FILE", "ICON", "9"], 1, "there is no resource ICON 9\n"),
-    (["show", "FILE", "ICON", "no name"], 1, 'there is no resource ICON "no name"\n'),
-    (["show", "FILE", "none"], 1, "there is no resource of the type none\n"),
+    (["show", "FILE", "STR ", "2", "--as", "text"], 2, message("no text")),
+    (["show", "FILE", "snd ", "1", "--as", "png"], *refusal("FILE", "no picture", "'snd '")),
+    (["show", "FILE", "ICON", "--as", "png"], *refusal("FILE", "many pictures")),
+    (["show", "FILE", "--as", "png"], *refusal("FILE", "many pictures")),
+    (["show", "FILE", "ICON", "1", "--as", "gif"], *refusal("error", "bad form")),
+    (["show", "FILE", "ICON", "9"], *refusal("FILE", "no resource", "ICON 9")),
+    (["show", "FILE", "ICON", "no name"], *refusal("FILE", "no resource", 'ICON "no name"')),
+    (["show", "FILE", "none"], *refusal("FILE", "no type", "none")),
     (["show", "FILE", "ICON", "9", "1"], 2, "Usage"),
     (["show", "FILE", "ICON", "1", "-o", "NO_SUCH_FOLDER/out"], 4, "-o"),
-    (["show", "NO_SUCH_FILE"], 4, "NO_SUCH_FILE"),
+    (["show", "NO_SUCH_FILE"], *refusal("NO_SUCH_FILE", "unreadable", MISSING)),
     (["unpack", "FILE"], 2, "Usage"),
-    (["unpack", "FILE", "NO_SUCH_FOLDER/out"], 4, "NO_SUCH_FOLDER/out"),
-    (["unpack", "NO_SUCH_FILE", "NO_SUCH_FOLDER/out"], 4, "NO_SUCH_FILE"),
+    (["unpack", "FILE", "NO_SUCH_FOLDER/out"], *refusal("FILE", "no folder", "NO_SUCH_FOLDER/out", MISSING)),
+    (["unpack", "NO_SUCH_FILE", "NO_SUCH_FOLDER/out"], *refusal("NO_SUCH_FILE", "unreadable", MISSING)),
 ]
 
 
-# what comes after `show FILE`, where OUT is a new file: forms that aren't made, with words of what is said
+# what comes after `show FILE`, where OUT is a new file: forms that aren't made, with what is said
 UNMADE = [
-    (["snd ", "1", "-o", "OUT.png"], "'snd ' is no picture"),
-    (["snd ", "1", "-o", "OUT.PNG"], "--as hex writes hexadecimal digits"),
-    (["STR ", "2", "-o", "OUT.png"], "--as text its bytes as text"),
-    (["ICON", "-o", "OUT.png"], "one picture"),
-    (["-o", "OUT.png"], "one picture"),
-    (["ICON", "1", "-o", "OUT.gif"], "--as hex"),
-    (["ICON", "1", "-o", "OUT.JPEG"], "OUT.png"),
-    (["snd ", "1", "-o", "OUT.wav"], "get writes the bytes"),
-    (["ICON", "1", "--as", "gif", "-o", "OUT.gif"], "--as takes text, hex or png"),
-    (["snd ", "1", "--as", "png", "-o", "OUT"], "no picture"),
-    (["STR ", "2", "--as", "text", "-o", "OUT.txt"], "--as hex"),
+    (["snd ", "1", "-o", "OUT.png"], message("no picture", "'snd '")),
+    (["snd ", "1", "-o", "OUT.PNG"], message("no picture", "'snd '")),
+    (["STR ", "2", "-o", "OUT.png"], message("no picture", "'STR '")),
+    (["ICON", "-o", "OUT.png"], message("many pictures")),
+    (["-o", "OUT.png"], message("many pictures")),
+    (["ICON", "1", "-o", "OUT.gif"], message("unmade")),
+    (["ICON", "1", "-o", "OUT.JPEG"], message("unmade")),
+    (["snd ", "1", "-o", "OUT.wav"], message("unmade")),
+    (["ICON", "1", "--as", "gif", "-o", "OUT.gif"], message("bad form")),
+    (["snd ", "1", "--as", "png", "-o", "OUT"], message("no picture", "'snd '")),
+    (["STR ", "2", "--as", "text", "-o", "OUT.txt"], message("no text")),
 ]
 
 
@@ -156,14 +158,14 @@ def try_short(program, path):
     strings = "STR  1\na\nSTR  3\nc\n"
     for words, named in ((["STR "], ["STR  2"]), ([], ["STR  2", "STR# 4", "vers 5"])):
         status, shown, told = run(program, ["show", path, *words, "--as", "text"])
-        lines = [f"{path}: {it}: it ends before its texts do; --as hex shows its bytes" for it in named]
+        lines = [f"{path}: {it}: {message('no text')}" for it in named]
         must((status, shown.decode(), told.splitlines()) == (2, strings, lines), f"show {words} --as text: status {status}, it wrote {shown!r} and told {told!r}")
     compare("show without a form", run(program, ["show", path, "STR "]), 0, ("STR  1\na\nSTR  2 \"b\"\n000000  02 62" + " " * 44 + ".b\nSTR  3\nc\n").encode(), "")
 
 
 # a compressed resource as System 7 has them: signature, header of 18 bytes, version 8, attributes, and 1024 bytes unpacked
 PACKED = bytes.fromhex("A89F6572 0012 08 01 00000400 4000 0000 0000") + bytes(range(110))
-TOLD = "compressed, 1024 bytes unpacked; its bytes can be had with get"
+TOLD = message("compressed", 1024)
 
 
 def try_compressed_lists(program, path, rows):
@@ -234,7 +236,7 @@ def try_unpack(program, path, folder, fork, rows):
         told = (one["type"].encode("mac_roman"), one["id"], one["name"], one["attributes"])
         named = None if row.name is None else row.name.decode("mac_roman")
         must(told == (row.kind, row.ident, named, row.attributes), f"resources.json says {told} of {row.kind} {row.ident}")
-    compare("unpack again", run(program, ["unpack", path, folder]), 4, b"", "nothing is overwritten")
+    compare("unpack again", run(program, ["unpack", path, folder]), 4, b"", refusal(path, "files there", folder)[1])
     return said
 
 
@@ -284,7 +286,7 @@ def try_containers(program, path, folder, data):
     header[124:126] = struct.pack(">H", remainder)
     said = try_unpack(program, path, folder, bytes(header) + fork + bytes(-len(fork) % 128), [Row(b"TEXT", 128, b"Read me", 0, data)])
     told = [said[it] for it in ("container", "type", "creator", "flags", "created", "modified")]
-    must(told == ["a MacBinary II file", "APPL", "Mine", 0x2104, 3000000000, 3000000001], f"resources.json says {told} of a MacBinary file")
+    must(told == [message("macbinary II"), "APPL", "Mine", 0x2104, 3000000000, 3000000001], f"resources.json says {told} of a MacBinary file")
 
 
 def try_failure(program, path, folder):
@@ -305,7 +307,7 @@ def main(resfork, number=60):
             write(path, fork_of([Row(b"STR ", 2, None, 0, b"\x09"), Row(b"snd ", 1, None, 0, b""), Row(b"ICON", 1, None, 0, ICON)]))
             for words, status, told in LINES:
                 words = [path if it == "FILE" else it for it in words]
-                compare(" ".join(words), run(resfork, words), status, b"", told)
+                compare(" ".join(words), run(resfork, words), status, b"", re.sub("^FILE:", f"{path}:", told))
             try_forms(resfork, path, os.path.join(top, "form"))
             try_short(resfork, path)
             try_compressed(resfork, path, os.path.join(top, "icon.png"))

@@ -13,6 +13,7 @@ from checks.fork_questions import Difference
 from checks.kept import KEPT
 from model.container import TOLD, NoContents, resource_fork
 from model.fork import FORMAT, NoFork, listing, read_fork, told_of
+from model.messages import message
 
 AT_ONCE = 400
 # two types, one of them with two resources; names; the map after the data
@@ -38,7 +39,7 @@ def files():
     kinds = [("a raw fork", FORK, [*range(16), *range(256, len(FORK))])]
     for keep, kept_as, _ in KEPT:
         file = keep(FORK)
-        text = kept_as == "a BinHex file"
+        text = kept_as == message("binhex")
         kinds.append((kept_as, file, range(0, len(file), 3) if text else range(128 if "MacBinary" in kept_as else 74)))
     for what, file, places in kinds:
         yield what, file

@@ -12,6 +12,7 @@ from checks.forks import compare, run
 from checks.shown import fork_of, must, write
 from model.change import table_of
 from model.fork import Row
+from model.messages import MISSING, message, refusal
 
 NOTHING = (bytes(240), 0)
 MAP = b"/*resfork: the map's 240 extra bytes and its attributes"
@@ -41,31 +42,30 @@ READ = [
 
 # what else Rez's language has at the start of a statement
 UNREAD = ["resource", "read", "include", "type", "change", "delete"]
-# texts that are refused, with the line and words of what is said; lines end with CR, LF or CR LF
-MISPLACED = "the comment with the map's bytes is read only where it begins the text: move it there, or remove it"
+# texts that are refused, with the line, the condition and its values; lines end with CR, LF or CR LF
 REFUSED = [
-    (b"// a text\r\ndata'TEXT'(128,$A2)/* a * b **/{\"Hi\\\\\" $\"0 0\"\n};", 2, "two hexadecimal digits are expected"),
-    (b"\n\ndata 'ABC' (1) {};", 3, "a type of four characters is expected"),
-    (b"data 'ABCD' (32768) {};", 1, "an id from -32768 to 32767 is expected"),
-    (b"data 'ABCD' (1, locket) {};", 1, "sysheap, purgeable, locked, protected, preload, or $ and two digits is expected"),
-    (b"data 'ABCD' (1) {\n$\"123\"};", 2, "two hexadecimal digits are expected"),
-    (b"data 'ABCD' (1) {\n\"a\n\"};", 2, "a printable character of ASCII is expected"),
-    (b"data 'ABCD' (1) {}", 1, "`;` is expected"),
-    (b"\n/* open", 2, "the end of a comment is expected"),
-    (b"resourse 'ABCD' (1) {};", 1, "`data` is expected, or the end"),
-    *((b"data 'ABCD' (1) {};" + end + word.encode() + b" 'ABCD' (1) {};", 2, f"`{word}` isn't read; `data` is expected, or the end") for word in UNREAD for end in (b"\n", b"\r", b"\r\n")),
-    (b"/* a */\r\n\r\r\n#include \"Types.r\"\r", 4, "a line that begins with # (`#include`) isn't read; `data` is expected, or the end"),
-    (b"\n\r\n\r\r\n\ndata 'ABC' (1) {};", 6, "a type of four characters is expected"),
-    (b"data 'ABCD' (1) {\r\n\"a\r\n\"};", 2, "a printable character of ASCII is expected"),
-    (MAP + b"\n$\"00\"\n*/", 1, "the 242 bytes of the map are expected"),
-    (b"// by hand\n" + COMMENT, 2, MISPLACED),
-    (COMMENT + TEXT + COMMENT, 10, MISPLACED),
-    (b"data 'ABCD' (1) {" + COMMENT + b"};", 1, MISPLACED),
+    (b"// a text\r\ndata'TEXT'(128,$A2)/* a * b **/{\"Hi\\\\\" $\"0 0\"\n};", 2, "no two digits"),
+    (b"\n\ndata 'ABC' (1) {};", 3, "no four letters"),
+    (b"data 'ABCD' (32768) {};", 1, "no id"),
+    (b"data 'ABCD' (1, locket) {};", 1, "no attribute"),
+    (b"data 'ABCD' (1) {\n$\"123\"};", 2, "no two digits"),
+    (b"data 'ABCD' (1) {\n\"a\n\"};", 2, "no letter"),
+    (b"data 'ABCD' (1) {}", 1, "no mark", ";"),
+    (b"\n/* open", 2, "no comment's end"),
+    (b"resourse 'ABCD' (1) {};", 1, "no statement"),
+    *((b"data 'ABCD' (1) {};" + end + word.encode() + b" 'ABCD' (1) {};", 2, "unread", f"`{word}`") for word in UNREAD for end in (b"\n", b"\r", b"\r\n")),
+    (b"/* a */\r\n\r\r\n#include \"Types.r\"\r", 4, "unread", message("a directive")),
+    (b"\n\r\n\r\r\n\ndata 'ABC' (1) {};", 6, "no four letters"),
+    (b"data 'ABCD' (1) {\r\n\"a\r\n\"};", 2, "no letter"),
+    (MAP + b"\n$\"00\"\n*/", 1, "no map"),
+    (b"// by hand\n" + COMMENT, 2, "map later"),
+    (COMMENT + TEXT + COMMENT, 10, "map later"),
+    (b"data 'ABCD' (1) {" + COMMENT + b"};", 1, "map later"),
 ]
 
 # a folder's manifest and files, and their rows
 MANIFEST = {
-    "container": "a MacBinary file",
+    "container": message("macbinary I"),
     "type": "ttro",
     "creator": "ttxt",
     "flags": 256,
@@ -81,17 +81,17 @@ MANIFEST = {
 FILES = {"STR_/-1.bin": b"\x02Hi", "~%AA~abc/128 %80.bin": b"\0"}
 ROWS = [(b"STR ", -1, None, 4, b"\x02Hi"), (b"\xaaabc", 128, b"\x80", 129, b"\0")]
 
-# what makes a manifest a bad one: the fields of its second resource, or its own, with words of what is said
+# what makes a manifest a bad one: the fields of its second resource, or its own, with what is said
 BAD_ENTRIES = [
-    ({"type": "abc"}, "isn't four characters of MacRoman"),
-    ({"type": "\u4e00abc"}, "isn't four characters of MacRoman"),
-    ({"name": "x" * 256}, "isn't at most 255 characters of MacRoman"),
-    *[({"file": file}, "isn't one in a folder of the folder") for file in ("1.bin", "../1.bin", "a/..", "/1.bin", "a/b/1.bin")],
+    ({"type": "abc"}, message("entry's type")),
+    ({"type": "\u4e00abc"}, message("entry's type")),
+    ({"name": "x" * 256}, message("entry's name")),
+    *[({"file": file}, message("entry's file")) for file in ("1.bin", "../1.bin", "a/..", "/1.bin", "a/b/1.bin")],
 ]
 BAD_FIELDS = [
-    ({"extra": "00"}, "480 hexadecimal digits"),
-    ({"resources": None}, "it isn't what unpack writes"),
-    ({"map_attributes": 65536}, "it isn't what unpack writes"),
+    ({"extra": "00"}, message("bad extra")),
+    ({"resources": None}, message("no manifest", "")),
+    ({"map_attributes": 65536}, message("no manifest", "")),
 ]
 
 
@@ -108,12 +108,12 @@ def try_texts(program, folder):
         compare(f"rez {given[:60]}", run(program, ["rez", "-q", text, "-o", out]), 0, b"", "")
         must(table_of(read(out)) == (rows, kept), f"rez {given[:60]}: other resources are read")
         os.remove(out)
-    for given, line, words in REFUSED:
+    for given, line, *what in REFUSED:
         write(text, given)
-        compare(f"rez {given[:60]}", run(program, ["rez", text, "-o", out]), 3, b"", f"{text}: line {line}: {words}")
+        compare(f"rez {given[:60]}", run(program, ["rez", text, "-o", out]), 3, b"", f"{text}: line {line}: {message(*what)}\n")
         must(not os.path.exists(out), f"rez {given[:60]}: it is refused, and a file is written")
     write(text, b"data 'ABCD' (1) {}; data 'abcd' (1) {}; data 'ABCD' (2) {};")
-    compare("rez of resources that stand apart", run(program, ["rez", text, "-o", out]), 3, b"", f"{text}: 'ABCD' 2 is apart from the other resources of its type")
+    compare("rez of resources that stand apart", run(program, ["rez", text, "-o", out]), 3, b"", refusal(text, "apart", "'ABCD' 2")[1])
     write(text, TEXT)
     status, made, told = run(program, ["rez", text, "-o", "-"])
     must((status, told) == (0, "") and table_of(made) == ([(ROW.kind, ROW.ident, ROW.name, ROW.attributes, ROW.data)], NOTHING), "rez -o -: other resources are written")
@@ -121,12 +121,12 @@ def try_texts(program, folder):
     compare("get -o -", run(program, ["get", text, "STR ", "-128", "-o", "-"]), 0, ROW.data, "")
     compare("derez", run(program, ["derez", text]), 0, COMMENT + TEXT, "")
     for kinds in (["-t", "none"], ["-t", "STR", "-t", "none"]):
-        compare(f"derez {kinds}", run(program, ["derez", *kinds, text]), 1, b"", f"{text}: there is no resource of the type none")
-        compare(f"unpack {kinds}", run(program, ["unpack", *kinds, text, out]), 1, b"", f"{text}: there is no resource of the type none")
+        compare(f"derez {kinds}", run(program, ["derez", *kinds, text]), 1, b"", refusal(text, "no type", "none")[1])
+        compare(f"unpack {kinds}", run(program, ["unpack", *kinds, text, out]), 1, b"", refusal(text, "no type", "none")[1])
         must(not os.path.exists(out), f"unpack {kinds}: it is refused, and a folder is made")
 
 
-# files that the manifest doesn't name, by their paths, and their rows; and those that --add refuses, with words of what is said
+# files that the manifest doesn't name, by their paths, and their rows; and those that --add refuses, with what is said
 ADDED = [
     ("STR_/2.bin", (b"STR ", 2, None, 0)),
     ("STR_/3 Read me.bin", (b"STR ", 3, b"Read me", 0)),
@@ -138,9 +138,9 @@ ADDED = [
     ("~icl8/201.bin", (b"icl8", 201, None, 0)),
 ]
 UNNAMED = [
-    *[(path, "isn't named as unpack names files") for path in ("a.bin", "STR_/a.bin", "STR_/2", "STR_/2.1.bin", "STR_/32768.bin", "STR_/+2.bin", "STR_/02.bin", "STR_/2.bin~")],
-    *[(path, "isn't named as unpack names files") for path in ("STR/2.bin", "STRxx/2.bin", "~STR_/2.bin", "STR_/2 %.bin", "STR_/2 %ff.bin", "STR_/2 %61.bin", "STR_/2 \u00e4.bin")],
-    *[("STR_/" + name, "unpack counts those") for name in ("-1 New.bin", "-1.3.bin", "2.2.bin")],
+    *[(path, "bad path") for path in ("a.bin", "STR_/a.bin", "STR_/2", "STR_/2.1.bin", "STR_/32768.bin", "STR_/+2.bin", "STR_/02.bin", "STR_/2.bin~")],
+    *[(path, "bad path") for path in ("STR/2.bin", "STRxx/2.bin", "~STR_/2.bin", "STR_/2 %.bin", "STR_/2 %ff.bin", "STR_/2 %61.bin", "STR_/2 \u00e4.bin")],
+    *[("STR_/" + name, "not the next") for name in ("-1 New.bin", "-1.3.bin", "2.2.bin")],
 ]
 
 
@@ -151,10 +151,10 @@ def try_unlisted(program, folder, out, packed):
         whole = os.path.join(folder, path)
         os.makedirs(os.path.dirname(whole), exist_ok=True)
         write(whole, path.encode())
-        compare(f"pack with {path}", packed(), 3, b"", "resources.json doesn't name")
+        compare(f"pack with {path}", packed(), 3, b"", refusal(folder, "not named", path)[1])
         must(not os.path.exists(out), f"pack with {path}: it is refused, and a file is written")
         if told:
-            compare(f"pack --add of {path}", run(program, words), 3, b"", told)
+            compare(f"pack --add of {path}", run(program, words), 3, b"", refusal(folder, told, path)[1])
             must(not os.path.exists(out), f"pack --add of {path}: it is refused, and a file is written")
         os.remove(whole)
     for path, _ in ADDED:
@@ -192,10 +192,10 @@ def try_folders(program, folder):
     for fields, words in bad:
         compare(f"pack {fields}", packed({**MANIFEST, **fields}), 3, b"", words)
     apart = packed({**MANIFEST, "resources": [first, second, first]})
-    compare("pack of resources that stand apart", apart, 3, b"", f"{folder}: 'STR ' -1 is apart from the other resources of its type")
+    compare("pack of resources that stand apart", apart, 3, b"", refusal(folder, "apart", "'STR ' -1")[1])
     try_unlisted(program, folder, out, lambda: packed(MANIFEST))
     os.remove(os.path.join(folder, first["file"]))
-    compare("pack without a file", packed(MANIFEST), 4, b"", f"{first['file']} can't be read")
+    compare("pack without a file", packed(MANIFEST), 4, b"", f"{first['file']} {message('unreadable', MISSING)}\n")
     must(not os.path.exists(out), "pack: it is refused, and a file is written")
 
 

@@ -17,6 +17,7 @@ from checks.fork_questions import Difference
 from checks.kept import apple, bin_hex_of, filled
 from checks.shown import fork_of
 from model.fork import Row, listing
+from model.messages import message
 
 STUFFIT = b"StuffIt (c)1997-1998 Aladdin Systems, Inc." + bytes(60)
 OLD_STUFFIT = b"SIT!\0\1" + struct.pack(">I", 200) + b"rLau" + bytes(186)
@@ -72,11 +73,9 @@ class Bench:
 
 def try_inside(bench):
     """Files without resources, and an archive in the data fork: by no fork at all, and by a fork without resources."""
-    note = "no resources; its data fork is a {}: {}"
-    advice = "unar -k hidden 'a file.hqx'"
     empty = fork_of([])
-    for archive, name, command in ((STUFFIT, "StuffIt archive", advice), (OLD_STUFFIT, "StuffIt archive", advice), (b"PK\3\4" + bytes(90), "zip archive", "unzip 'a file.hqx'")):
-        told = note.format(name, command)
+    for archive, name, command in ((STUFFIT, "StuffIt", "unar"), (OLD_STUFFIT, "StuffIt", "unar"), (b"PK\3\4" + bytes(90), "zip", "unzip")):
+        told = message("inside", message(name), message(command).replace("FILE", "'a file.hqx'"))
         for keep in (mac_binary, bin_hex_of, lambda data, fork: apple_file(0x51600, data, fork)):
             bench.write("a file.hqx", keep(archive, b""))
             for words in (["ls"], ["ls", "--types"], ["check"]):
@@ -93,27 +92,28 @@ def try_inside(bench):
             bench.write("a file.hqx", keep(archive, fork_of(ROWS)))
             must("ls of a fork with resources", bench.run("ls", "a file.hqx"), (0, listing(ROWS), ""))
             must("ls -t of it", bench.run("ls", "-t", "none", "a file.hqx"), (0, "", ""))
-    must("ls -", bench.run("ls", "-", text=mac_binary(STUFFIT, b"")), (3, "", "-: no resources; its data fork is a StuffIt archive: unar -k hidden -\n"))
+    must("ls -", bench.run("ls", "-", text=mac_binary(STUFFIT, b"")), (3, "", f"-: {message('inside', message('StuffIt'), message('unar').replace('FILE', '-'))}\n"))
 
 
 def try_none(bench):
     """Files without a resource fork have one status in all containers; one without bytes has no resources."""
     for keep, kept_as in (
-        (mac_binary, "a MacBinary II file"), (bin_hex_of, "a BinHex file"), (lambda data, fork: apple_file(0x51600, data, fork), "an AppleSingle file"),
-        (lambda data, fork: apple_file(0x51607, b"", fork), "an AppleDouble file"),
+        (mac_binary, "macbinary II"), (bin_hex_of, "binhex"), (lambda data, fork: apple_file(0x51600, data, fork), "applesingle"),
+        (lambda data, fork: apple_file(0x51607, b"", fork), "appledouble"),
     ):
         bench.write("file", keep(TEXT, b""))
         for words in (["ls", "file"], ["check", "file"], ["get", "file", "TEXT", "1"], ["show", "file"]):
-            must(f"{words[0]} of {kept_as} without a fork", bench.run(*words), (3, "", f"file: {kept_as}: it has no resource fork\n"))
+            must(f"{words[0]} of {kept_as} without a fork", bench.run(*words), (3, "", f"file: {message(kept_as)}: {message('absent')}\n"))
     bench.write("file", b"")
     must("ls of a file without bytes", bench.run("ls", "file"), (0, "", ""))
 
 
 def try_unknown(bench):
     """All commands say the same of an archive and of a text."""
+    archive = message("archive", message("StuffIt"), message("unar").replace("FILE", "file"))
     for text, told in (
-        (OLD_STUFFIT, "a StuffIt archive, which resfork doesn't unpack: unar -k hidden file"), (STUFFIT, "a StuffIt archive, which resfork doesn't unpack: unar -k hidden file"),
-        (b"hello, this is a text of some lines\n" * 9, "neither a resource fork nor a file that has one in it"), (b"short", "neither a resource fork nor a file that has one in it: the header has 16 bytes, and 5 bytes are left in the fork\n  at $000000"),
+        (OLD_STUFFIT, archive), (STUFFIT, archive),
+        (b"hello, this is a text of some lines\n" * 9, message("unknown")), (b"short", message("unknown for", message("header", 16, 5, "000000"))),
     ):
         bench.write("file", text)
         for words in (["ls", "file"], ["check", "file"], ["info", "file"], ["get", "file", "TEXT", "1"], ["show", "file"], ["derez", "file"], ["rm", "file", "TEXT", "1"]):
@@ -143,15 +143,15 @@ def try_facts(bench, number):
     dates = [1, 86399, 86400, 59 * 86400, 60 * 86400, 366 * 86400, 2**31 - 1, 2**31 + 1, 2**32 - 1, *(dice.randrange(1, 2**32) for _ in range(number))]
     for date in dates:
         bench.write("file", mac_binary(b"", fork, 0, (date, 0)))
-        must(f"MacBinary's date {date}", bench.run("info", "file"), (0, start.format("a MacBinary II file") + about(dates=(shown(LOCAL, date),)) + end, ""))
+        must(f"MacBinary's date {date}", bench.run("info", "file"), (0, start.format(message("macbinary II")) + about(dates=(shown(LOCAL, date),)) + end, ""))
         signed = date - 2**32 if date >= 2**31 else date
         bench.write("file", apple_file(0x51607, b"", fork, 0, (2**31, date)))
-        wanted = start.format("an AppleDouble file") + about(dates=(None, shown(UNIVERSAL, signed, "Z"))) + end
+        wanted = start.format(message("appledouble")) + about(dates=(None, shown(UNIVERSAL, signed, "Z"))) + end
         must(f"AppleDouble's date {date}", bench.run("info", "file"), (0, wanted, ""))
     for flags in [*(bit for bit, _ in NAMES), 2, 4, 8, 0x2100, 0xFFFF, *(dice.randrange(65536) for _ in range(number // 4))]:
         names = [name for bit, name in NAMES if flags & bit] + ([f"color:{flags >> 1 & 7}"] if flags & 14 else [])
         bench.write("file", mac_binary(b"", fork, flags, (0, 0), b"Caf\x8e \"x\"\r"))
-        must(f"the flags {flags:04X}", bench.run("info", "file"), (0, start.format("a MacBinary II file") + about(names, (), 'Caf\u00e9 \\"x\\"\\x0D') + end, ""))
+        must(f"the flags {flags:04X}", bench.run("info", "file"), (0, start.format(message("macbinary II")) + about(names, (), 'Caf\u00e9 \\"x\\"\\x0D') + end, ""))
         said = bench.json("info", "--json", "file")[1][0]
         must(f"the flags {flags:04X} as JSON", (said["flags"], said["created"], said["modified"], said["comment"]), (names, None, None, 'Caf\u00e9 "x"\r'))
     bench.write("file", bin_hex_of(b"", fork))

@@ -11,6 +11,7 @@ from measured import slowness
 from model.contents import DIGITS
 from model.container import resource_fork
 from model.fork import read_fork
+from model.messages import message, pattern
 
 # a megabyte, in kilobytes
 MB = 1024
@@ -69,7 +70,7 @@ def every_command(name="f"):
     yield ["convert", "--to", "macbinary", "--lossy", "--data", name, "Game", "OUT"]
 
 
-MANIFEST = {"container": "a resource fork", "type": None, "creator": None, "flags": None, "created": None, "modified": None, "extra": "00" * 240, "map_attributes": 0}
+MANIFEST = {"container": message("raw"), "type": None, "creator": None, "flags": None, "created": None, "modified": None, "extra": "00" * 240, "map_attributes": 0}
 
 
 def manifest(entries):
@@ -121,7 +122,7 @@ class Limits:
             fault = too_much(took, self.seconds + MAKING * making(files) / self.slow, self.memory, self.slow)
             if not fault and took.status not in statuses:
                 fault = str(took)
-            if not fault and named and (named not in took.told or "has no memory" in took.told or "out of memory" in took.told.lower()):
+            if not fault and named and (named not in took.told or message("no memory") in took.told or "out of memory" in took.told.lower()):
                 fault = f"it isn't refused by name: {took}"
             if not fault and took.status in (3, 4) and words[0] != "salvage" and set(os.listdir(folder)) - set(before) - {"out" if words[0] == "unpack" else ""}:
                 fault = f"it is refused, and {set(os.listdir(folder)) - set(before)} is there"
@@ -144,7 +145,7 @@ def overlaps(bench):
             yield f"ls of a fork {what} is refused", took.says(3, words=("f: ",)) or (None if not took.output else "it wrote something")
             took = bench.measured(["salvage", "f"], folder, seconds=8)
             most = struct.unpack(">I", fork[12:16])[0] // 12
-            shown = [line for line in took.output.splitlines() if b"can't be read" not in line]
+            shown = [line for line in took.output.splitlines() if not pattern("not read", "more").search(line.decode("utf-8", "replace"))]
             yield f"salvage of a fork {what} obeys the bound", took.says(0, 3) or (None if len(shown) <= most else f"{len(shown)} rows, and {most} are allowed")
 
 

@@ -6,25 +6,15 @@ import binascii
 import re
 import struct
 
+from model.messages import pattern
+
 DIGITS = {byte: value for value, byte in enumerate(b"!\"#$%&'()*+,-012345689@ABCDEFGHIJKLMNPQRSTUVXYZ[`abcdefhijklmpqr")}
 # the part of the comment that all tools have; macutils goes on otherwise than RFC 1741
 COMMENT = re.compile(rb"(?:\A|[\r\n])[\t ]*\(This file must be converted")
 
 # what is said of a container that is damaged, or has no such fork
-TOLD = {
-    "short": r"the file ends within the container's header: it has \d+ of \d+ bytes",
-    "version": r"the version at offset 4 is \$[0-9A-F]{8}, and only \$00010000 and \$00020000 are known",
-    "list": r"the \d+ entries that offset 24 calls for end outside the file, which has \d+ bytes",
-    "entry": r"entry \d+, listed at offset \d+, has \d+ bytes from offset \d+ on, and the file has \d+",
-    "sum": r"the checksum at offset 124 is \$[0-9A-F]{4}, and that of the header is \$[0-9A-F]{4}",
-    "fork": r"the (?:data|resource) fork, whose length is at offset (?:83|87), has \d+ bytes from offset \d+ on, and the file has \d+",
-    "no text": "no line begins with the colon that begins a BinHex text",
-    "text": r"offset \d+: (?:the character 0x.. is no BinHex digit|the text ends without a closing colon|a run-length byte has no (?:byte before|count after) it)",
-    "closed": r"offset \d+: the text is closed before the end of the (?:header|data fork|resource fork)",
-    "crc": r"offset \d+: the CRC of the (?:header|data fork|resource fork) is 0x[0-9a-f]{4}, and should be 0x[0-9a-f]{4}",
-    "absent": "it has no resource fork",
-}
-TOLD = {fault: re.compile(told) for fault, told in TOLD.items()}
+TOLD = {it: pattern(it) for it in ("short", "version", "list", "entry", "sum", "fork", "no colon", "closed", "crc", "absent")}
+TOLD["text"] = pattern("no digit", "open", "no byte before", "no count after")
 
 
 class NoContents(Exception):
@@ -105,7 +95,7 @@ def decoded(file, start):
 def in_bin_hex(file, after):
     """The fork in a BinHex text, whose first colon begins a line after the comment."""
     colon = re.compile(rb"(?:(?<=[\r\n])|\A)[\t ]*:").search(file, after)
-    must(colon, "no text")
+    must(colon, "no colon")
     values, fault = decoded(file, colon.end())
     at = 0
 

@@ -7,6 +7,7 @@ import struct
 from dataclasses import dataclass, replace
 
 from model.container import COMMENT, DIGITS, decoded, mac_binary_version
+from model.messages import message
 
 # seconds from the beginning of 1904 to that of 2000
 TO_2000 = 3029529600
@@ -43,13 +44,13 @@ def lost(kind, it):
     """The words for what a container doesn't hold of a file, but for the data fork."""
     words = []
     if kind == "raw" and it.name:
-        words.append("its name")
+        words.append(message("its name"))
     if kind == "raw" and (any(it.kind) or any(it.creator) or it.flags):
-        words.append("its type, creator and flags")
+        words.append(message("its type"))
     if kind in ("raw", "binhex") and (it.created or it.modified):
-        words.append("its dates")
+        words.append(message("its dates"))
     if kind in ("raw", "binhex") and it.comment:
-        words.append("its comment")
+        words.append(message("its comment"))
     return words
 
 

@@ -5,6 +5,8 @@ It is written from the rules of docs/FORMAT.md alone, and shares nothing with th
 import re
 import struct
 
+from model.messages import message, pattern
+
 MOST_BYTES = 4194304
 MOST_ROWS = 8192
 # the most bytes of a fork, the most rows, the most bytes of all rows, and how many bytes of the map there must be for each row: for macheap,
@@ -13,41 +15,24 @@ MACHEAP = (MOST_BYTES, MOST_ROWS, MOST_BYTES, 0)
 FORMAT = (4294967295, 4194304, 268435456, 12)
 WORDS = [(128, "bit7"), (64, "sysHeap"), (32, "purgeable"), (16, "locked"), (8, "protected"), (4, "preload"), (2, "changed"), (1, "bit0")]
 
-# the conditions in the order in which they are looked at, in words
-TOLD = {
-    "end": "ends within its header",
-    "parts": "the data or the map lies outside the fork, or the fork is too long",
-    "types": "the type list ends outside the map, or a type is in it twice",
-    "references": "a list of references ends outside the map",
-    "rows": "too many resources",
-    "names": "a name ends outside the map",
-    "places": "the bytes of a resource end outside the data",
-    "bytes": "too many bytes together",
-}
-
-# what is said of bytes of which nothing looks like a fork
-OTHER = "neither a resource fork nor a file that has one in it"
-# what is said of a fork of which a condition doesn't hold
-PART = r"the (?:{}) has \d+ bytes, and \d+ bytes are left in the {}\n  at \$[0-9A-F]{{6,}}"
-ROW = r"'.*' -?\d+: {} \d+, and \d+ bytes are left in the {}\n  at \$[0-9A-F]{{6,}}, reached from the reference at \$[0-9A-F]{{6,}}"
+# what is said of a fork, or of bytes of which nothing looks like one, by the first condition that doesn't hold, in the order in which they are looked at
 MESSAGES = {
-    "end": PART.format("header", "fork") + "|" + OTHER,
-    "parts": OTHER + "|" + PART.format("data|map", "fork") + "|" + PART.format("header of the map", "map") + r"|the fork has \d+ bytes, and at most 4294967295 are read",
-    "types": PART.format("count of types|type list", "map") + r"|'.*' is twice in the type list\n  at \$[0-9A-F]{6,}, first at \$[0-9A-F]{6,}",
-    "references": r"'.*': the list of its references has \d+ bytes, and \d+ bytes are left in the map\n  at \$[0-9A-F]{6,}",
-    "rows": r"there are \d+ resources in a map of \d+ bytes, and at most \d+ are read",
-    "names": ROW.format("its name with its byte of length has", "map"),
-    "places": ROW.format("(?:the bytes of its length are|its length is)", "data"),
-    "bytes": r"'.*' -?\d+: the bytes of the resources up to it are \d+, and at most \d+ are read of such data\n  at \$[0-9A-F]{6,}, reached from the reference at \$[0-9A-F]{6,}",
+    "end": pattern("header", "unknown"),
+    "parts": pattern("unknown", "data", "map", "map header", "long fork"),
+    "types": pattern("type count", "type list", "same type"),
+    "references": pattern("reference list"),
+    "rows": pattern("row count"),
+    "names": pattern("name"),
+    "places": pattern("length", "datum"),
+    "bytes": pattern("byte count"),
 }
-MESSAGES = {condition: re.compile(told) for condition, told in MESSAGES.items()}
 
 
 def told_of(condition, fork):
     """What is said of bytes that are no fork for this condition. Of a text, whose first bytes aren't zero, it may be that nothing is known."""
     if 0 in fork[:16] or len(fork) < 16:
         return MESSAGES[condition]
-    return re.compile(MESSAGES[condition].pattern + "|neither a resource fork nor a file that has one in it\n")
+    return re.compile(f"{MESSAGES[condition].pattern}|{message('unknown')}\n")
 
 
 class NoFork(Exception):

@@ -12,6 +12,7 @@ from checks.forks import Choices
 from checks.kept import KEPT
 from model.container import NoContents, resource_fork
 from model.fork import FORMAT, NoFork, read_fork
+from model.messages import message
 from places import TOP
 
 CORPUS = os.path.join(os.path.dirname(TOP), "shared", "corpus")
@@ -91,7 +92,7 @@ def mutation(files, number):
     if way == 0:
         return name, changed(choices, good), good
     fork = fork_in(good)
-    keep, kind, _ = choices.choice([*KEPT, (lambda it: it, "a resource fork", 0)])
+    keep, kind, _ = choices.choice([*KEPT, (lambda it: it, message("raw"), 0)])
     kept = keep(fork)
     if way == 1:
         return f"{name} in {kind}, changed", changed(choices, kept), kept
