@@ -1,12 +1,16 @@
 pub mod AsBefore
 pub mod Filled
+mod FewerFull
 pub mod Guests
 pub mod Headers
+pub mod InTurns
 pub mod Keeping
 pub mod NilFlags
 pub mod Lendable
 pub mod LentAgain
 pub mod Made
+mod NextFull
+pub mod Noted
 pub mod SaveStates
 pub mod Sleeping
 mod Settled
