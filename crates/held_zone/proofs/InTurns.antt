@@ -43,7 +43,7 @@ pub record StillEmptied (start : ZoneState) (purges : Purges) (call : MemoryCall
   pub lent : now.heap.table.lent ≡ start.heap.table.lent
   pub loans : KeepsLoans start now
 
-loans-then : (start mid new : ZoneState) → KeepsLoans start mid → KeepsLoans mid new → KeepsLoans start new
+pub loans-then : (start mid new : ZoneState) → KeepsLoans start mid → KeepsLoans mid new → KeepsLoans start new
 loans-then start mid new one other = (other.0 ∙ one.0, λ x loan lent. other.1 x loan (one.1 x loan lent))
 
 -- EmptyHandle that isn't refused empties its handle

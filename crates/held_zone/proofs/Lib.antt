@@ -1,6 +1,7 @@
 pub mod AsBefore
-pub mod Filled
+mod Ends
 mod FewerFull
+pub mod Filled
 pub mod Guests
 pub mod Headers
 pub mod InTurns
