@@ -32,7 +32,7 @@ FailsAt k before now = Rose (slice_index before (k - 1)) (slice_index now (k - 1
 -- grow-zone procedure gives the answers that are left, first in, first out, and takes them from the front. A device
 -- is memory, which fails only where the host has none for a longer fork. A file that was updated with success reads
 -- back as the table that was saved. What is lent stays where it is, what waits to be lent waits on, and the
--- guest's fields of the zone's header stay, and so does what C is told of purges.
+-- guest's fields of the zone's header stay, and so does what C learns of purges.
 pub record StepsOnForks (old : State) (old_files : ForksState) (call : ResourceCall) (outcome : Outcome) (new : State) (new_files : ForksState) : Type 0 where
   pub device : Device
   pub step : ResourceStepBy (StepsFrom old.left new.left) (read_truly IsPartly) device (resource_state old old_files) call new.asks

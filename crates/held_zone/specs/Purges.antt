@@ -1,4 +1,4 @@
--- What C is told of the handles that its calls purge.
+-- What C learns of the handles that its calls purge.
 use Rattle.std.specs.Prelude.{ℕ, min, Bool, true, false, List, [], ◌∷◌, length, take, Option, Some, None}
 
 -- whether calls are held that would purge; the handle whose turn it is, if the last call was held; and the handles that

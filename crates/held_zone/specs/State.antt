@@ -13,7 +13,7 @@ use Rattle.held_zone.specs.Purges.{Purges, no_purges}
 
 -- the zone, the blocks that are lent with the bytes that C has of them, the answers that the grow-zone procedure has
 -- left, what the last call asked, the blocks that wait while the zone sleeps to be lent again, in the order in which
--- they were lent, the guest's fields of the zone's header, as they were when the zone woke, and what C is told of purges
+-- they were lent, the guest's fields of the zone's header, as they were when the zone woke, and what C learns of purges
 pub record State : Type 0 where
   pub zone : ZoneState
   pub loans : Loans

@@ -28,7 +28,7 @@ pub enum CallEnd {
 }
 
 /// The Memory Manager with its zone, the loans that C has of it, the answers of its grow-zone procedure, the blocks that
-/// wait while the zone sleeps to be lent again, the guest's fields of the zone's header, and what C is told of purges.
+/// wait while the zone sleeps to be lent again, the guest's fields of the zone's header, and what C learns of purges.
 pub struct Session {
     pub memory: MemoryManager,
     pub loans: Loans,
