@@ -13,15 +13,15 @@ use Rattle.mac_base.specs.Effect.{request_of}
 use Rattle.mac_base.specs.HandleTable.{is_full}
 use Rattle.mac_base.specs.HeadKind.{Shape}
 use Rattle.mac_base.specs.Heap.{Heap, has_none}
-use Rattle.mac_base.specs.Request.{candidates_in, makes_handle}
+use Rattle.mac_base.specs.Request.{candidates, candidates_in, fits, makes_handle}
 use Rattle.mac_base.specs.Sound.{Sound}
 use Rattle.mac_base.specs.Tests.{protected_by, refusal}
 use Rattle.mac_base.specs.ZoneMap.{largest_free}
 use Rattle.zone_laws.proofs.SoundServed.{attempted-parts, sound-attempted}
-use Rattle.zone_heap.specs.NextPurge.{BeforePurge, before_purge, next_of_all, next_to}
+use Rattle.zone_heap.specs.NextPurge.{BeforePurge, before_purge, grown_for, next_of_all, next_to}
 use Rattle.zone_heap.proofs.Purging.{first-candidate}
 use Rattle.mem_calls.specs.Purges.{before_after, before_asking, before_call, before_quiet, before_request, before_unless, none_before}
-use Rattle.mem_calls.proofs.PurgeSteps.{first-some, ready-candidate, sound-ready, table-ready}
+use Rattle.mem_calls.proofs.PurgeSteps.{first-some, sound-ready, table-ready}
 
 -- just before a call purges the table is as it was, and the handle that is next has a block
 pub record NextFull (heap : Heap) (before : BeforePurge) : Type 0 where
@@ -35,29 +35,31 @@ first-all : (h : ℕ) (hs : List ℕ) → slice_get hs 0 ≡ Some h → (rest : 
 first-all h [] is = absurd (cc is)
 first-all h (g ∷ hs) is = let same : g ≡ h = cc is in (hs, ap (λ g. g ∷ hs) same)
 
-module _ (s : Shape) (heap : Heap) (sound : Sound s heap) where
-  full-request : (protected : List ℕ) (r : Request) → NextFull heap (before_purge s protected r heap)
-  full-request protected r = record { table = table-ready s r heap; full = λ h some. (ready-candidate s protected r heap sound h some).full }
+full-request : (s : Shape) (heap : Heap) → Sound s heap → (protected : List ℕ) (r : Request) → NextFull heap (before_purge s protected r heap)
+full-request s heap sound protected r = record {
+  table = table-ready s r heap;
+  full = λ h some. (let here = grown_for s r heap in let known = first-some (fits s here.table r here.map) (candidates here.table protected r here.map) h some in
+      (first-candidate s protected r here h known.1.0 (sound-ready s protected r heap sound) known.1.1).full);
+}
 
+module _ (s : Shape) (heap : Heap) (sound : Sound s heap) where
   -- after one for a master block
   full-master : (protected : List ℕ) (r : Request) → NextFull heap (before_request s protected r heap true)
   full-master protected r = let master = before_purge s protected NewMaster heap in by_parts master.next (attempted s NewMaster master.heap) refl
     where
       by_parts : (o : Option ℕ) (served : Option (ℕ × Heap)) → attempted s NewMaster (before_purge s protected NewMaster heap).heap ≡ served
           → NextFull heap (before_after s protected r (before_purge s protected NewMaster heap) o served)
-      by_parts (Some h) served serves = full-request protected NewMaster
-      by_parts None None serves = full-request protected NewMaster
+      by_parts (Some h) served serves = full-request s heap sound protected NewMaster
+      by_parts None None serves = full-request s heap sound protected NewMaster
       by_parts None (Some made) serves =
           let ready = (before_purge s protected NewMaster heap).heap in
           let known = attempted-parts s NewMaster ready made.0 made.1 serves in
           let table : made.1.table ≡ heap.table = ap (λ (new : Heap). new.table) (sym known.2) ∙ table-ready s NewMaster heap in
-          let made_sound = sound-attempted s NewMaster ready made.0 made.1 (sound-ready s protected NewMaster heap sound) tt serves in record {
-            table = table-ready s r made.1 ∙ table;
-            full = λ h some. (ready-candidate s protected r made.1 made_sound h some).full;
-          }
+          let after = full-request s made.1 (sound-attempted s NewMaster ready made.0 made.1 (sound-ready s protected NewMaster heap sound) tt serves) protected r in
+          record { table = after.table ∙ table; full = after.full }
 
   full-asked : (protected : List ℕ) (r : Request) (lacks : Bool) → NextFull heap (before_request s protected r heap lacks)
-  full-asked protected r false = full-request protected r
+  full-asked protected r false = full-request s heap sound protected r
   full-asked protected r true = full-master protected r
 
   full-first : (h : ℕ) → (rest : List ℕ) × (candidates_in heap.table [] heap.map ≡ h ∷ rest) → is_full heap.table h ≡ true
