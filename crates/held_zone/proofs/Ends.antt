@@ -5,7 +5,7 @@ use Rattle.held_calls.specs.declared.loans.Held.{Held}
 use Rattle.held_calls.specs.Holding.{Holds}
 use Rattle.held_calls.proofs.Holding.{Holds-kept}
 use Rattle.linked_zone.specs.Loans.{KeepsLoans}
-use Rattle.mac_base.specs.ExactStep.{StepEnd, exact_step}
+use Rattle.mac_base.specs.ExactStep.{exact_step}
 use Rattle.mac_base.specs.HeadKind.{Shape}
 use Rattle.mac_base.specs.Outcomes.{Outcome}
 use Rattle.mac_base.specs.ZoneState.{ZoneState}

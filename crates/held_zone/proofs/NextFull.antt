@@ -1,5 +1,5 @@
 -- The handle that a call purges first has a block.
-use Rattle.std.proofs.Common.{◌≡◌, ◌∙◌, ℕ, Bool, true, false, List, [], ◌∷◌, Option, Some, None, refl, ap, sym, subst}
+use Rattle.std.proofs.Common.{◌≡◌, ◌∙◌, ℕ, Bool, true, false, List, [], ◌∷◌, Option, Some, None, refl, ap, sym}
 use Rattle.std.specs.Prelude.{◌&&◌, nat_le}
 use Rattle.std.specs.List.{slice_get}
 use Rattle.mac_base.specs.declared.error.OsErr.{OsErr}
@@ -18,7 +18,7 @@ use Rattle.mac_base.specs.Sound.{Sound}
 use Rattle.mac_base.specs.Tests.{protected_by, refusal}
 use Rattle.mac_base.specs.ZoneMap.{largest_free}
 use Rattle.zone_laws.proofs.SoundServed.{attempted-parts, sound-attempted}
-use Rattle.zone_heap.specs.NextPurge.{BeforePurge, before_purge, grown_for, next_of_all, next_to}
+use Rattle.zone_heap.specs.NextPurge.{BeforePurge, before_purge, grown_for}
 use Rattle.zone_heap.proofs.Purging.{first-candidate}
 use Rattle.mem_calls.specs.Purges.{before_after, before_asking, before_call, before_quiet, before_request, before_unless, none_before}
 use Rattle.mem_calls.proofs.PurgeSteps.{first-some, sound-ready, table-ready}

@@ -1,5 +1,5 @@
 -- What C learns of the handles that its calls purge.
-use Rattle.std.specs.Prelude.{ℕ, min, Bool, true, false, List, [], ◌∷◌, length, take, Option, Some, None}
+use Rattle.std.specs.Prelude.{ℕ, min, Bool, false, List, [], length, take, Option, Some, None}
 
 -- whether calls are held that would purge; the handle whose turn it is, if the last call was held; and the handles that
 -- the last call purged, in order: the first of them, and how many there were

@@ -1,4 +1,4 @@
-use Rattle.std.proofs.Common.{◌≡◌, ◌∙◌, sym, ap}
+use Rattle.std.proofs.Common.{◌∙◌, sym, ap}
 use Rattle.mac_base.specs.Outcomes.{done_outcome}
 use Rattle.held_zone.specs.Purges.{Purges}
 use Rattle.held_zone.proofs.InTurns.{all-emptied, fewer-left, held-at, still-more}

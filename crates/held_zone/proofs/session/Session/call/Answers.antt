@@ -1,4 +1,4 @@
-use Rattle.std.proofs.Common.{◌≡◌, ◌∙◌, ap, not, subst, true}
+use Rattle.std.proofs.Common.{◌∙◌, ap, not, subst}
 use Rattle.held_calls.specs.Holding.{loans_of}
 use Rattle.held_zone.specs.State.{State}
 use Rattle.held_zone.specs.Told.{EndsIn}

@@ -1,5 +1,4 @@
-use Rattle.std.proofs.Common.{◌≡◌, ◌∙◌, ℕ, List, [], ap, length, subst, sym}
-use Rattle.mac_base.specs.ZoneState.{ZoneState}
+use Rattle.std.proofs.Common.{◌≡◌, ◌∙◌, ℕ, List, [], ap, subst, sym}
 use Rattle.raw_region.specs.State.{State as Region}
 use Rattle.mem_calls.proofs.FlagsTaken.{part-all}
 use Rattle.held_calls.specs.declared.loans.Held.{Held}

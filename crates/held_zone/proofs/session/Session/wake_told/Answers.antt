@@ -1,4 +1,4 @@
-use Rattle.std.proofs.Common.{◌≡◌, ◌∙◌, ◌≤◌, ap, arith, length, refl, subst, sym}
+use Rattle.std.proofs.Common.{◌∙◌, ◌≤◌, ap, arith, length, refl, subst, sym}
 use Rattle.mac_base.specs.HeadKind.{zone_header}
 use Rattle.raw_region.specs.State.{State as Region}
 use Rattle.held_calls.specs.Holding.{loans_of}
