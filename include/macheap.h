@@ -60,7 +60,8 @@ enum {
     MH_MEM_PUR_ERR = -112,    /* the block is locked, and can't be purged */
     MH_MEM_BC_ERR = -115,     /* no handle's contents begin there */
     MH_DAMAGED = -116,        /* the bytes haven't the zone's structure, or are those of no zone (memSCErr) */
-    MH_MEM_LOCKED_ERR = -117  /* the block is locked, or lent; of mh_wake: a lent handle isn't locked any more */
+    MH_MEM_LOCKED_ERR = -117, /* the block is locked, or lent; of mh_wake: a lent handle isn't locked any more */
+    MH_WOULD_PURGE = -1002    /* no code of a Macintosh: the call would purge, and is held (mh_hold_purges) */
 };
 
 /* A zone, or none. Its fields are the library's. */
@@ -245,6 +246,25 @@ typedef struct MhCarried {
 MhErr mh_asked(MhZone *zone, uint32_t *count);
 MhErr mh_ask(MhZone *zone, uint32_t index, MhAsk *ask);
 MhErr mh_carried(MhZone *zone, uint32_t index, uint32_t place, MhCarried *carried);
+
+/* Purging. A call of the Memory Manager that finds no room purges: it empties handles that are purgeable and unlocked,
+ * one after another. mh_purged shows those that the zone's last call emptied so, in order: the first of them, as many as
+ * there is room for and 1,024 at most, and in `count` how many they were in all.
+ *
+ * A guest may have a purge-warning procedure, and a host may have to write a changed resource before it is purged. So
+ * while mh_hold_purges holds them (`on` isn't 0), a call that would purge is held: it is MH_WOULD_PURGE, gives no
+ * results, and has done only what it does before it purges. Where it found no room the zone has grown to its limit, and
+ * where it lacked a master pointer it has made a master block. mh_would_purge gives the handle that it would purge first
+ * (paramErr where the last call wasn't held). Now run the procedure, or write the resource; empty the handle
+ * (mh_empty_handle), or make it unpurgeable; and make the call again, until it isn't held. If each handle was emptied,
+ * it ends as one call does that isn't held, and leaves the same zone.
+ *
+ * The last call is that of one of the functions above, but mh_peek and those of loans. What a call purges after it took
+ * an answer (mh_queue_answer) is neither held nor shown. Nor is what the calls of resman.h purge: before one that loads
+ * a resource, make room by mh_more_masters, if need be, and mh_reserve_mem of its size. */
+MhErr mh_hold_purges(MhZone *zone, uint32_t on);
+MhErr mh_would_purge(MhZone *zone, uint32_t *handle);
+MhErr mh_purged(MhZone *zone, uint32_t *handles, size_t room, uint32_t *count);
 
 /* A zone in memory of the host: the RAM of an emulator, whose guest writes there as it likes. The zone sleeps while the
  * guest runs, and wakes in these bytes for calls:

@@ -3,8 +3,8 @@
 # the shared library, and over the other with the sanitizers over the C side; the same of a zone in memory that a guest writes, with 40,000
 # random calls, as many where the host says what was written, and 600 zones that are damaged; of zones made of bytes that others wrote:
 # 100,000 of random bytes, 1,200 with a byte that was changed, and 40,000 random calls on zones that are made anew of their bytes; each
-# byte of a zone that is damaged, named and mended; a look at zones of its own, and at 20,000 that others made; bytes from outside the zone, with 40,000 random calls on each of two zones; 175,000
-# random calls, 100,000 of them on a zone that a guest writes, of which macheap prints the same; and 100,000 on resource files; resources
+# byte of a zone that is damaged, named and mended; a look at zones of its own, and at 20,000 that others made; bytes from outside the zone, with 40,000 random calls on each of two zones; handles
+# that are purged, and calls that are held before they purge, with 80,000 random calls on each of two zones; 175,000 random calls, 100,000 of them on a zone that a guest writes, of which macheap prints the same; and 100,000 on resource files; resources
 # by their names, and other names for them; what all open resource files have together, after 4,000 random calls; 20,000 random reads and
 # writes of some of a resource's bytes; 255 resource files at a time; all traps, by their table; a zone and files that four threads use in
 # turn; a zone that the host has no memory for, over c/heap.c, too; a fork, of which resfork prints the same; and forks whose bytes are
@@ -58,6 +58,8 @@ built attach -O1 -fsanitize=address,undefined
 "$room/attach"
 built brought -O1 -fsanitize=address,undefined
 "$room/brought"
+built purges -O1 -fsanitize=address,undefined
+"$room/purges"
 built damage -O1 -fsanitize=address,undefined
 "$room/damage"
 built random -O1 -fsanitize=address,undefined

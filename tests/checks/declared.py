@@ -33,7 +33,7 @@ def operands_in_rust(operands):
     """The operands of a function of C as the crate has to declare them: values before their count are given by a raw pointer."""
     found = [in_rust(it) for it in operands.split(",")]
     counted = [*(it.endswith(": usize") for it in found[1:]), False]
-    return [it.replace(": &mut Mh", ": *mut Mh").replace(": &Mh", ": *const Mh") if is_counted else it for it, is_counted in zip(found, counted)]
+    return [it.replace(": &mut Mh", ": *mut Mh").replace(": &mut u32", ": *mut u32").replace(": &Mh", ": *const Mh") if is_counted else it for it, is_counted in zip(found, counted)]
 
 
 def of_c(header):

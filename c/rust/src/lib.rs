@@ -88,6 +88,14 @@ impl Zone<'_> {
         Ok(written)
     }
 
+    /// Writes the handles that the last call purged, in order, as many of the first as there is room for. Gives how many
+    /// they were.
+    pub fn purged(&mut self, handles: &mut [u32]) -> Result<u32> {
+        let mut count = 0;
+        told(unsafe { sys::mh_purged(&mut self.0, handles.as_mut_ptr(), handles.len(), &mut count) })?;
+        Ok(count)
+    }
+
     /// The bytes of a lent block. No call is made on the zone while they are held.
     pub fn window(&mut self, block: u32) -> Result<&mut [u8]> {
         let mut window = MhWindow { start: ptr::null_mut(), length: 0 };
@@ -260,4 +268,6 @@ calls! {
     mh_asked is asked() -> count: u32;
     mh_ask is ask(index: u32) -> ask: MhAsk;
     mh_carried is carried(index: u32, place: u32) -> carried: MhCarried;
+    mh_hold_purges is hold_purges(on: u32);
+    mh_would_purge is would_purge() -> handle: u32;
 }

@@ -58,6 +58,7 @@ pub const MH_MEM_PUR_ERR: i16 = -112;
 pub const MH_MEM_BC_ERR: i16 = -115;
 pub const MH_DAMAGED: i16 = -116;
 pub const MH_MEM_LOCKED_ERR: i16 = -117;
+pub const MH_WOULD_PURGE: i16 = -1002;
 pub const MH_LOCK: u32 = 128;
 pub const MH_PURGE: u32 = 64;
 pub const MH_RESOURCE: u32 = 32;
@@ -174,6 +175,7 @@ unsafe extern "C" {
     pub fn mh_set_handle_to(zone: &mut MhZone, handle: u32, bytes: *const u8, count: usize) -> i16;
     pub fn mh_append(zone: &mut MhZone, handle: u32, bytes: *const u8, count: usize) -> i16;
     pub fn mh_image(zone: &mut MhZone, bytes: *mut u8, count: usize) -> i16;
+    pub fn mh_purged(zone: &mut MhZone, handles: *mut u32, room: usize, count: &mut u32) -> i16;
     pub fn mh_window(zone: &mut MhZone, block: u32, window: &mut MhWindow) -> i16;
     pub fn mr_begin(files: &mut MrFiles) -> i16;
     pub fn mr_end(files: &mut MrFiles) -> i16;

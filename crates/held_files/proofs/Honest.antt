@@ -12,6 +12,7 @@ use Rattle.held_calls.proofs.Steps.{exact-queued}
 use Rattle.held_files.specs.Forks.{ForksState, failures_in, fork_in, seen_on}
 use Rattle.held_files.specs.Making.{FailsAt, HasNoMemory, StepsOnForks}
 use Rattle.held_zone.specs.declared.fields.GuestFields.{GuestFields}
+use Rattle.held_zone.specs.Purges.{Purges}
 use Rattle.held_zone.specs.State.{State}
 use Rattle.linked_zone.specs.Loans.{KeepsLoans}
 use Rattle.mac_base.specs.ZoneState.{ZoneState}
@@ -90,9 +91,9 @@ counts-rose k old new rose = subst (λ (n : ℕ). Rose n (slice_index (map failu
 steps-on : (old new : State) (on new_on : FilesOn Store) (call : ResourceCall) (outcome : Outcome)
     → ResourceSteps mem_store old.zone on call new.asks outcome new.zone new_on
     → ReadsBack (honest_in new_on.stores) (state_of fork_in old.zone on) call outcome (state_of fork_in new.zone new_on)
-    → taken new.asks new.left ≡ old.left → OutOfAnswers new.asks new.left → new.loans ≡ old.loans → new.waiting ≡ old.waiting → new.guest ≡ old.guest → KeepsLoans old.zone new.zone
+    → taken new.asks new.left ≡ old.left → OutOfAnswers new.asks new.left → new.loans ≡ old.loans → new.waiting ≡ old.waiting → new.guest ≡ old.guest → new.purges ≡ old.purges → KeepsLoans old.zone new.zone
     → StepsOnForks old (seen_on on) call outcome new (seen_on new_on)
-steps-on old new on new_on call outcome steps reads took out loans waiting guest keeps = record {
+steps-on old new on new_on call outcome steps reads took out loans waiting guest purges keeps = record {
   device = steps.device;
   step = step_by MayStep (StepsFrom old.left new.left) (read_truly IsPartly) steps.device (state_of fork_in old.zone on) call new.asks (record { outcome = outcome; state = state_of fork_in new.zone new_on })
       (λ s heap inner given after may. exact-queued s heap inner given after new.asks new.left old.left may.1 took out)
@@ -104,6 +105,7 @@ steps-on old new on new_on call outcome steps reads took out loans waiting guest
   loans = loans;
   waiting = waiting;
   guest = guest;
+  purges = purges;
   lent = record { keeps = keeps };
 }
   where
@@ -132,19 +134,20 @@ steps-on old new on new_on call outcome steps reads took out loans waiting guest
 -- one that had none
 no-memory : (old new : State) (on new_on : FilesOn Store) (call : ResourceCall)
     → IsTrue (takes_memory (state_of fork_in old.zone on) call) → resource_refusal (state_of fork_in old.zone on) call ≡ None
-    → new.zone ≡ old.zone → new.asks ≡ [] → taken new.asks new.left ≡ old.left → new.loans ≡ old.loans → new.waiting ≡ old.waiting → new.guest ≡ old.guest
+    → new.zone ≡ old.zone → new.asks ≡ [] → taken new.asks new.left ≡ old.left → new.loans ≡ old.loans → new.waiting ≡ old.waiting → new.guest ≡ old.guest → new.purges ≡ old.purges
     → IsAnswered (honest_in new_on.stores) (state_of fork_in new.zone new_on) (state_of fork_in old.zone on)
     → HasNoMemory old (seen_on on) call (Err MemFullErr) new (seen_on new_on)
-no-memory old new on new_on call takes passes zone asks took loans waiting guest same = record {
+no-memory old new on new_on call takes passes zone asks took loans waiting guest purges same = record {
   takes = takes;
   passes = passes;
   full = refl;
-  zone = ap (λ (z : ZoneState). let s : State = record { zone = z; loans = new.loans; left = new.left; asks = new.asks; waiting = new.waiting; guest = new.guest } in s) zone
-      ∙ ap (λ (l : Loans). let s : State = record { zone = old.zone; loans = l; left = new.left; asks = new.asks; waiting = new.waiting; guest = new.guest } in s) loans
-      ∙ ap (λ (made : List Ask). let s : State = record { zone = old.zone; loans = old.loans; left = new.left; asks = made; waiting = new.waiting; guest = new.guest } in s) asks
-      ∙ ap (λ (left : List Answer). let s : State = record { zone = old.zone; loans = old.loans; left = left; asks = []; waiting = new.waiting; guest = new.guest } in s) (ap (λ (made : List Ask). taken made new.left) (sym asks) ∙ took)
-      ∙ ap (λ (xs : List ℕ). let s : State = record { zone = old.zone; loans = old.loans; left = old.left; asks = []; waiting = xs; guest = new.guest } in s) waiting
-      ∙ ap (λ (fields : GuestFields). let s : State = record { zone = old.zone; loans = old.loans; left = old.left; asks = []; waiting = old.waiting; guest = fields } in s) guest;
+  zone = ap (λ (z : ZoneState). let s : State = record { zone = z; loans = new.loans; left = new.left; asks = new.asks; waiting = new.waiting; guest = new.guest; purges = new.purges } in s) zone
+      ∙ ap (λ (l : Loans). let s : State = record { zone = old.zone; loans = l; left = new.left; asks = new.asks; waiting = new.waiting; guest = new.guest; purges = new.purges } in s) loans
+      ∙ ap (λ (made : List Ask). let s : State = record { zone = old.zone; loans = old.loans; left = new.left; asks = made; waiting = new.waiting; guest = new.guest; purges = new.purges } in s) asks
+      ∙ ap (λ (left : List Answer). let s : State = record { zone = old.zone; loans = old.loans; left = left; asks = []; waiting = new.waiting; guest = new.guest; purges = new.purges } in s) (ap (λ (made : List Ask). taken made new.left) (sym asks) ∙ took)
+      ∙ ap (λ (xs : List ℕ). let s : State = record { zone = old.zone; loans = old.loans; left = old.left; asks = []; waiting = xs; guest = new.guest; purges = new.purges } in s) waiting
+      ∙ ap (λ (fields : GuestFields). let s : State = record { zone = old.zone; loans = old.loans; left = old.left; asks = []; waiting = old.waiting; guest = fields; purges = new.purges } in s) guest
+      ∙ ap (λ (p : Purges). let s : State = record { zone = old.zone; loans = old.loans; left = old.left; asks = []; waiting = old.waiting; guest = old.guest; purges = p } in s) purges;
   files = (ap (λ (s : ResState). s.files) stays, ap (λ (s : ResState). s.loads) stays, ap (λ (s : ResState). s.disks) stays);
 }
   where
@@ -159,17 +162,17 @@ module _ (zone : State) (on : FilesOn Store) (old : State) (old_files : ForksSta
   pub steps-seen : (made : Result Outcome HostFull)
       → IfOk made (λ outcome. ResourceSteps mem_store zone.zone on call new.asks outcome new.zone new_on)
       → IfOk made (λ outcome. ReadsBack (honest_in new_on.stores) (state_of fork_in zone.zone on) call outcome (state_of fork_in new.zone new_on))
-      → taken new.asks new.left ≡ zone.left → OutOfAnswers new.asks new.left → new.loans ≡ zone.loans → new.waiting ≡ zone.waiting → new.guest ≡ zone.guest → KeepsLoans zone.zone new.zone
+      → taken new.asks new.left ≡ zone.left → OutOfAnswers new.asks new.left → new.loans ≡ zone.loans → new.waiting ≡ zone.waiting → new.guest ≡ zone.guest → new.purges ≡ zone.purges → KeepsLoans zone.zone new.zone
       → IfOk made (λ outcome. StepsOnForks old old_files call outcome new (seen_on new_on))
-  steps-seen (Ok outcome) steps reads took out loans waiting guest keeps =
-      seen_then (λ s f. StepsOnForks s f call outcome new (seen_on new_on)) (steps-on zone new on new_on call outcome steps reads took out loans waiting guest keeps)
-  steps-seen (Err full) steps reads took out loans waiting guest keeps = tt
+  steps-seen (Ok outcome) steps reads took out loans waiting guest purges keeps =
+      seen_then (λ s f. StepsOnForks s f call outcome new (seen_on new_on)) (steps-on zone new on new_on call outcome steps reads took out loans waiting guest purges keeps)
+  steps-seen (Err full) steps reads took out loans waiting guest purges keeps = tt
 
   pub none-seen : (made : Result Outcome HostFull)
       → OnErr made (IsTrue (takes_memory (state_of fork_in zone.zone on) call)) → OnErr made (resource_refusal (state_of fork_in zone.zone on) call ≡ None)
-      → OnErr made (new.zone ≡ zone.zone) → OnErr made (new.asks ≡ []) → taken new.asks new.left ≡ zone.left → new.loans ≡ zone.loans → new.waiting ≡ zone.waiting → new.guest ≡ zone.guest
+      → OnErr made (new.zone ≡ zone.zone) → OnErr made (new.asks ≡ []) → taken new.asks new.left ≡ zone.left → new.loans ≡ zone.loans → new.waiting ≡ zone.waiting → new.guest ≡ zone.guest → new.purges ≡ zone.purges
       → OnErr made (IsAnswered (honest_in new_on.stores) (state_of fork_in new.zone new_on) (state_of fork_in zone.zone on))
       → OnErr made (HasNoMemory old old_files call (Err MemFullErr) new (seen_on new_on))
-  none-seen (Ok outcome) takes passes same asks took loans waiting guest answered = tt
-  none-seen (Err full) takes passes same asks took loans waiting guest answered =
-      seen_then (λ s f. HasNoMemory s f call (Err MemFullErr) new (seen_on new_on)) (no-memory zone new on new_on call takes passes same asks took loans waiting guest answered)
+  none-seen (Ok outcome) takes passes same asks took loans waiting guest purges answered = tt
+  none-seen (Err full) takes passes same asks took loans waiting guest purges answered =
+      seen_then (λ s f. HasNoMemory s f call (Err MemFullErr) new (seen_on new_on)) (no-memory zone new on new_on call takes passes same asks took loans waiting guest purges answered)

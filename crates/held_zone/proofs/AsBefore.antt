@@ -25,6 +25,7 @@ use Rattle.held_calls.specs.declared.loans.Held.{Held}
 use Rattle.held_calls.specs.Holding.{EachOnce, Holds, is_held, loans_of}
 use Rattle.held_zone.specs.Asleep.{FallsAsleep, WakesAsBefore, all_back, is_lendable, new_loans, with_loans, with_these_lent}
 use Rattle.held_zone.specs.declared.fields.GuestFields.{GuestFields}
+use Rattle.held_zone.specs.Purges.{Purges}
 use Rattle.held_zone.specs.State.{State, WaitAsleep}
 use Rattle.held_zone.proofs.LentAgain.{held-there}
 use Rattle.held_zone.proofs.Made.{state}
@@ -133,11 +134,11 @@ each-lendable z (h ∷ hs) each =
 -- ---- the zone
 
 -- a zone that fell asleep wakes as it was in the bytes that it left
-pub wakes-as_before : (zone : ZoneState) (held : List Held) (left : List Answer) (asks : List Ask) (waiting : List ℕ) (guest : GuestFields) (r : Region) (new : State)
+pub wakes-as_before : (zone : ZoneState) (held : List Held) (left : List Answer) (asks : List Ask) (waiting : List ℕ) (guest : GuestFields) (purges : Purges) (r : Region) (new : State)
     → Sound zone.shape zone.heap → LoansFit zone.heap → LoansAreFixed zone.heap → Holds zone held → WaitAsleep zone waiting → r.name ≡ zone.memory.region
-    → FallsAsleep (state zone (loans_of held) left asks waiting guest) r new → WakesAsBefore (state zone (loans_of held) left asks waiting guest) r new
-wakes-as_before zone held left asks waiting guest r new sound fit fixes holds waits place falls =
-    let old : State = state zone (loans_of held) left asks waiting guest in
+    → FallsAsleep (state zone (loans_of held) left asks waiting guest purges) r new → WakesAsBefore (state zone (loans_of held) left asks waiting guest purges) r new
+wakes-as_before zone held left asks waiting guest purges r new sound fit fixes holds waits place falls =
+    let old : State = state zone (loans_of held) left asks waiting guest purges in
     let back : Heap = all_returned (loans_of held) zone.heap in
     let table : back ≡ with_table (with_lent back.table.lent (with_loans (loans_of held) zone.heap.table)) zone.heap = returned-all (loans_of held) zone.heap in
     let blocks : List ℕ = map (λ loan. loan.0) (loans_of held) in
@@ -151,5 +152,5 @@ wakes-as_before zone held left asks waiting guest r new sound fit fixes holds wa
     let woken : ZoneState = record (all_back old).zone { memory = new.zone.memory } in
     record {
       may = (λ i. list_all (is_lendable (falls.as_before i)) (falls.waiting i)) ∙ each-lendable woken held (λ x is. lends-first zone.shape back x (fixed-some zone.shape zone.heap x sound (is_fixed x is)) none (still_fixed x is));
-      awake = as_it_was old r new falls place ∙ (λ i. state (record zone { heap = heap i }) (again i) left asks (sym nothing_waits i) guest);
+      awake = as_it_was old r new falls place ∙ (λ i. state (record zone { heap = heap i }) (again i) left asks (sym nothing_waits i) guest purges);
     }

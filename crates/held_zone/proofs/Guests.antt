@@ -1,16 +1,15 @@
 -- A zone of a guest: how it wakes and falls asleep, and how its bytes are repaired, with the guest's fields put aside.
-use Rattle.std.proofs.Common.{◌≡◌, ◌∙◌, ℕ, ◌-◌, ◌≤◌, List, [], ◌++◌, length, replicate, take, None, Ok, Err, Result, refl, sym, ap, subst, inl, inr, IsTrue}
+use Rattle.std.proofs.Common.{◌≡◌, ◌∙◌, ℕ, ◌-◌, ◌≤◌, List, ◌++◌, length, replicate, take, Ok, Err, Result, refl, sym, ap, subst, inl, inr, IsTrue}
 use Rattle.std.specs.Prelude.{IfErr}
-use Rattle.mac_base.specs.HeadKind.{zone_header}
 use Rattle.mac_base.specs.ZoneSizes.{ZoneSizes}
-use Rattle.mac_base.specs.ZoneState.{Memory, ZoneState}
+use Rattle.mac_base.specs.ZoneState.{ZoneState}
 use Rattle.raw_region.specs.State.{State as Region, with_bytes}
 use Rattle.block_bytes.specs.declared.adopting.WhyNot.{WhyNot}
 use Rattle.block_bytes.specs.declared.adopting.WhyNot.TheVariants.{NotZone}
 use Rattle.linked_zone.specs.Adopting.{IsZoneIn}
 use Rattle.linked_zone.specs.Structure.{HasStructure, IsIn, shown}
 use Rattle.held_zone.specs.declared.fields.GuestFields.{GuestFields}
-use Rattle.held_zone.specs.Asleep.{AwakeTaking, FallsAsleep, IsAsleep, IsAwakeIn, IsGivenBack, IsInRegion, IsSettled, RefusesTaken, SleepsOn, WakesAsBefore, all_back, all_lendable, as_left, awake_as, awake_in}
+use Rattle.held_zone.specs.Asleep.{AwakeTaking, FallsAsleep, IsAwakeIn, IsGivenBack, IsInRegion, IsSettled, RefusesTaken, SleepsOn, WakesAsBefore, all_back, all_lendable, awake_as}
 use Rattle.held_zone.specs.declared.waking.WhyAsleep.{WhyAsleep}
 use Rattle.held_zone.specs.declared.waking.WhyAsleep.TheVariants.{Damaged, HostFull, Unlocked}
 use Rattle.held_zone.specs.NilFlags.{IsCleared, Takes}
@@ -20,7 +19,7 @@ use Rattle.held_zone.specs.KeptFlags.{KeepsFlags}
 use Rattle.held_zone.specs.Repairing.{IsMended}
 use Rattle.held_zone.specs.State.{State}
 use Rattle.held_zone.proofs.Filled.{zone-in}
-use Rattle.held_zone.proofs.Headers.{fielded-back, in-long, in-with, length-with, managed-fielded, managed-in}
+use Rattle.held_zone.proofs.Headers.{in-long, in-with, length-with, managed-fielded, managed-in}
 use Rattle.held_zone.proofs.NilFlags.{damaged-cleared, taken-long}
 use Rattle.mem_calls.proofs.FlagsTaken.{written-all}
 

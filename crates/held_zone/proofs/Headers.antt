@@ -1,5 +1,5 @@
 -- The guest's fields of a zone's header among its bytes.
-use Rattle.std.proofs.Common.{◌≡◌, ◌∙◌, ℕ, ◌+◌, ◌≤◌, List, [], ◌∷◌, ◌++◌, length, take, take_all, drop, refl, sym, ap, subst, arith, append_assoc, length-append, length-drop, take-append-drop, drop-drop}
+use Rattle.std.proofs.Common.{◌≡◌, ◌∙◌, ℕ, ◌+◌, ◌≤◌, List, [], ◌++◌, length, take, take_all, drop, refl, sym, ap, arith, append_assoc, length-append, take-append-drop, drop-drop}
 use Rattle.byteorder.specs.Endian.{big_bytes}
 use Rattle.mac_base.specs.HeadKind.{slot_count, zone_header}
 use Rattle.block_bytes.specs.ZoneHead.{zeros, zone_head}

@@ -11,8 +11,7 @@ use Rattle.mac_base.specs.declared.block.Block.{Block}
 use Rattle.mac_base.specs.declared.block.Entry.{Entry}
 use Rattle.mac_base.specs.declared.block.Flags.{Flags}
 use Rattle.mac_base.specs.BlockReport.{block_flags, reports_from}
-use Rattle.mac_base.specs.declared.block.HeadKind.{HeadKind}
-use Rattle.mac_base.specs.declared.block.HeadKind.TheVariants.{Bits24, Bits32}
+use Rattle.mac_base.specs.declared.block.HeadKind.TheVariants.{Bits24}
 use Rattle.mac_base.specs.declared.error.OsErr.{OsErr}
 use Rattle.mac_base.specs.declared.error.OsErr.TheVariants.{MemLockedErr, MemWzErr, NilHandleErr, ParamErr}
 use Rattle.mac_base.specs.declared.memory_call.MemoryCall.TheVariants.{OnBlock}
@@ -23,7 +22,7 @@ use Rattle.mac_base.specs.HandleTable.{HandleTable, Live, EmptyHandle, FullHandl
 use Rattle.mac_base.specs.HeadKind.{Shape, head_size, slot_count, zone_header}
 use Rattle.mac_base.specs.Heap.{Heap, with_table}
 use Rattle.mac_base.specs.declared.reply.Results.TheVariants.{Nothing}
-use Rattle.mac_base.specs.Outcomes.{Outcome, done_outcome}
+use Rattle.mac_base.specs.Outcomes.{done_outcome}
 use Rattle.mac_base.specs.Sound.{Sound}
 use Rattle.mac_base.specs.Suits.{slots, wanted_length}
 use Rattle.mac_base.specs.Tests.{refusal, unless_passed}

@@ -15,6 +15,7 @@ use Rattle.held_calls.specs.declared.loans.Held.{Held}
 use Rattle.held_calls.specs.Holding.{Holds}
 use Rattle.held_calls.proofs.Holding.{Holds-kept}
 use Rattle.held_zone.specs.declared.fields.GuestFields.{GuestFields}
+use Rattle.held_zone.specs.Purges.{Purges}
 use Rattle.held_zone.specs.State.{State, WaitAsleep, with_no_asks}
 use Rattle.held_zone.specs.Told.{Makes, StaysLent}
 
@@ -32,24 +33,24 @@ holds-made old new held call asks (Some outcome) steps same keeps holds = Holds-
 holds-made old new held call asks None steps same keeps holds = Holds-kept old new held keeps (ap (λ (z : ZoneState). z.heap.table.lent) same) holds
 
 -- a call that was made took its answers from the front of those that were left
-pub made-queued : (old new : State) (call : MemoryCall) (made : Option Outcome) → IfSome made (λ outcome. MemorySteps old.zone call new.asks outcome new.zone) → taken new.asks new.left ≡ old.left → OutOfAnswers new.asks new.left → new.loans ≡ old.loans → new.waiting ≡ old.waiting → new.guest ≡ old.guest → KeepsLoans old.zone new.zone
+pub made-queued : (old new : State) (call : MemoryCall) (made : Option Outcome) → IfSome made (λ outcome. MemorySteps old.zone call new.asks outcome new.zone) → taken new.asks new.left ≡ old.left → OutOfAnswers new.asks new.left → new.loans ≡ old.loans → new.waiting ≡ old.waiting → new.guest ≡ old.guest → new.purges ≡ old.purges → KeepsLoans old.zone new.zone
     → IfSome made (λ outcome. Makes old call outcome new)
-made-queued old new call (Some outcome) steps took out loans waiting guest keeps = (exact-queued old.zone.shape old.zone.heap call outcome new.zone.heap new.asks new.left old.left steps.1 took out, steps.2, loans, waiting, guest, stays_lent keeps)
-made-queued old new call None steps took out loans waiting guest keeps = tt
+made-queued old new call (Some outcome) steps took out loans waiting guest purges keeps = (exact-queued old.zone.shape old.zone.heap call outcome new.zone.heap new.asks new.left old.left steps.1 took out, steps.2, loans, waiting, guest, stays_lent keeps, purges)
+made-queued old new call None steps took out loans waiting guest purges keeps = tt
 
 -- the state of these parts
-abbrev pub state : ZoneState → Loans → List Answer → List Ask → List ℕ → GuestFields → State
-state zone loans left asks waiting guest = record { zone = zone; loans = loans; left = left; asks = asks; waiting = waiting; guest = guest }
+abbrev pub state : ZoneState → Loans → List Answer → List Ask → List ℕ → GuestFields → Purges → State
+state zone loans left asks waiting guest purges = record { zone = zone; loans = loans; left = left; asks = asks; waiting = waiting; guest = guest; purges = purges }
 
 -- blocks wait only while the zone sleeps, whatever becomes of it where it is
 pub waits-on : (old new : ZoneState) (waiting : List ℕ) → new.memory ≡ old.memory → WaitAsleep old waiting → WaitAsleep new waiting
 waits-on old new waiting same waits awake = waits (subst (λ (m : Memory). IsTrue (is_some m.kept)) same awake)
 
 -- a call that wasn't made changed nothing but what was asked
-pub not-made : (zone new : ZoneState) (loans : Loans) (source left : List Answer) (before asks : List Ask) (waiting : List ℕ) (guest : GuestFields) (made : Option Outcome) → IfNone made (new ≡ zone) → IfNone made (asks ≡ []) → taken asks left ≡ source
-    → IfNone made (state new loans left asks waiting guest ≡ with_no_asks (state zone loans source before waiting guest))
-not-made zone new loans source left before asks waiting guest (Some outcome) same unasked took = tt
-not-made zone new loans source left before asks waiting guest None same unasked took =
-    ap (λ (z : ZoneState). state z loans left asks waiting guest) same
-    ∙ ap (λ (made_asks : List Ask). state zone loans left made_asks waiting guest) unasked
-    ∙ ap (λ (front : List Answer). state zone loans front [] waiting guest) (ap (λ (made_asks : List Ask). taken made_asks left) (sym unasked) ∙ took)
+pub not-made : (zone new : ZoneState) (loans : Loans) (source left : List Answer) (before asks : List Ask) (waiting : List ℕ) (guest : GuestFields) (purges : Purges) (made : Option Outcome) → IfNone made (new ≡ zone) → IfNone made (asks ≡ []) → taken asks left ≡ source
+    → IfNone made (state new loans left asks waiting guest purges ≡ with_no_asks (state zone loans source before waiting guest purges))
+not-made zone new loans source left before asks waiting guest purges (Some outcome) same unasked took = tt
+not-made zone new loans source left before asks waiting guest purges None same unasked took =
+    ap (λ (z : ZoneState). state z loans left asks waiting guest purges) same
+    ∙ ap (λ (made_asks : List Ask). state zone loans left made_asks waiting guest purges) unasked
+    ∙ ap (λ (front : List Answer). state zone loans front [] waiting guest purges) (ap (λ (made_asks : List Ask). taken made_asks left) (sym unasked) ∙ took)

@@ -36,5 +36,5 @@ attached_wakes sizes r s zone idle =
     (λ i. with_these_lent (idle.waiting i) (same i).heap) ∙ lent-none s.zone.heap zone.nothing_lent in
     let loans : new_loans (shown s.zone r.bytes).heap.table s.waiting ≡ s.loans = ap (new_loans (shown s.zone r.bytes).heap.table) idle.waiting ∙ sym idle.loans in (
       own-structure s.zone zone.sound zone.nothing_lent r.bytes zone.inside,
-      λ i. record { zone = record s.zone { memory = woken_in s.zone.memory r.name; heap = none i }; loans = loans i; left = s.left; asks = s.asks; waiting = sym idle.waiting i; guest = s.guest },
+      λ i. record { zone = record s.zone { memory = woken_in s.zone.memory r.name; heap = none i }; loans = loans i; left = s.left; asks = s.asks; waiting = sym idle.waiting i; guest = s.guest; purges = s.purges },
     )

@@ -38,4 +38,5 @@ as_it_was old r new falls place = λ i. record {
   asks = falls.asks i;
   waiting = [];
   guest = falls.guest i;
+  purges = falls.purges i;
 }

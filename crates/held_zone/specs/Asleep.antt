@@ -132,6 +132,7 @@ pub record FallsAsleep (old : State) (r : Region) (new : State) : Type 0 where
   pub left : new.left ≡ old.left
   pub asks : new.asks ≡ old.asks
   pub guest : new.guest ≡ old.guest
+  pub purges : new.purges ≡ old.purges
   pub asleep : IsAsleep new
 
 -- the table in which lent blocks have the bytes of their loans. They are lent still

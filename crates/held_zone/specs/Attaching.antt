@@ -5,6 +5,7 @@ use Rattle.mac_base.specs.ZoneSizes.{ZoneSizes}
 use Rattle.mac_base.specs.ZoneState.{ZoneState}
 use Rattle.linked_zone.specs.Image.{IsImage}
 use Rattle.linked_zone.specs.Sizes.{sizes_of}
+use Rattle.held_zone.specs.Purges.{no_purges}
 use Rattle.held_zone.specs.State.{State}
 
 -- these are the bytes of a zone of these sizes, from its start to the end of its last block: a sound one, of which
@@ -15,10 +16,12 @@ pub record IsZoneOf (sizes : ZoneSizes) (image : List ℕ) (z : ZoneState) : Typ
   pub nothing_lent : z.heap.table.lent ≡ []
   pub bytes : IsImage z image
 
--- nothing is lent, no answer and no block waits, nothing was asked, and the zone is in memory of its own
+-- nothing is lent, no answer and no block waits, nothing was asked, the zone is in memory of its own, and no call is held
+-- or has purged
 pub record IsIdle (s : State) : Type 0 where
   pub loans : s.loans ≡ []
   pub left : s.left ≡ []
   pub asks : s.asks ≡ []
   pub waiting : s.waiting ≡ []
   pub own : s.zone.memory.kept ≡ None
+  pub purges : s.purges ≡ no_purges

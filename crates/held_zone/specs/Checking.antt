@@ -1,5 +1,5 @@
 -- The first byte of a guest's that isn't as a zone's structure calls for.
-use Rattle.std.specs.Prelude.{◌≡◌, ℕ, List, Option, Some, None, Result, Ok, Err}
+use Rattle.std.specs.Prelude.{ℕ, List, Option, Some, None, Result, Ok, Err}
 use Rattle.linked_zone.specs.Faults.{IsFirstFault}
 use Rattle.linked_zone.specs.Structure.{HasStructure}
 use Rattle.mac_base.specs.declared.error.HostFull.{HostFull}

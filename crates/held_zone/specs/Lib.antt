@@ -3,8 +3,10 @@ pub mod Attaching
 pub mod Checking
 pub mod Fields
 pub mod Held
+pub mod InTurn
 pub mod KeptFlags
 pub mod NilFlags
+pub mod Purges
 pub mod Repairing
 pub mod State
 pub mod Told

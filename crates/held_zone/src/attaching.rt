@@ -6,6 +6,7 @@ ghost use Rattle.mac_base.specs.HeadKind.{zone_header};
 ghost use Rattle.held_zone.specs.Fields.{managed};
 
 use crate::fields::GuestFields;
+use crate::purges::Purges;
 use crate::session::Session;
 use arrayvec::ArrayVec;
 use held_calls::answers::AnswerQueue;
@@ -105,6 +106,7 @@ impl Session {
             answers,
             waiting: ArrayVec::new(),
             guest,
+            purges: Purges::new(),
         };
         match Box::new(alloc, session) {
             Ok(session) => Ok(session),

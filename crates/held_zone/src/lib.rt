@@ -9,6 +9,7 @@ mod lent;
 pub mod memory;
 mod nil_flags;
 pub mod parked;
+pub mod purges;
 mod repairing;
 pub mod session;
 pub mod told;

@@ -4,6 +4,7 @@ ghost use Rattle.std.specs.Prelude.{◌≡◌, []};
 
 use crate::fields::GuestFields;
 use crate::lent;
+use crate::purges::{self, Purges};
 use arrayvec::ArrayVec;
 use held_calls::answers::{AnswerQueue, MOST_ASKS, MadeAsk};
 use held_calls::loans::Loans;
@@ -19,14 +20,22 @@ use std::marker::Model;
 /// How many answers may wait.
 const MOST_WAITING: usize = 16;
 
+/// How a call of C ends: it is held, since it would purge; or with its outcome, if there is a zone.
+#[derive(Drop)]
+pub enum CallEnd {
+    Held,
+    Ended(Option<Outcome>),
+}
+
 /// The Memory Manager with its zone, the loans that C has of it, the answers of its grow-zone procedure, the blocks that
-/// wait while the zone sleeps to be lent again, and the guest's fields of the zone's header.
+/// wait while the zone sleeps to be lent again, the guest's fields of the zone's header, and what C learns of purges.
 pub struct Session {
     pub memory: MemoryManager,
     pub loans: Loans,
     pub answers: AnswerQueue<MOST_WAITING>,
     pub waiting: ArrayVec<u32, MOST_LOANS>,
     pub guest: GuestFields,
+    pub purges: Purges,
 }
 
 impl Model for Session {
@@ -35,7 +44,7 @@ impl Model for Session {
 
     ghost Value = { State };
 
-    ghost view = { λ s. record { zone = s.memory; loans = loans_of s.loans; left = s.answers.left; asks = s.answers.asks; waiting = s.waiting.items; guest = s.guest } };
+    ghost view = { λ s. record { zone = s.memory; loans = loans_of s.loans; left = s.answers.left; asks = s.answers.asks; waiting = s.waiting.items; guest = s.guest; purges = s.purges } };
 
     ghost invariant = { λ s. Holds s.memory s.loans × WaitAsleep s.memory s.waiting.items };
 }
@@ -49,10 +58,12 @@ impl Drop for Session {
             answers,
             waiting,
             guest: _,
+            purges,
         } = self;
         drop(lending::finish(memory, loans));
         drop(answers);
         drop(waiting);
+        drop(purges);
     }
 }
 
@@ -67,7 +78,8 @@ impl Session {
     ghost use Rattle.held_calls.specs.Holding.{IsWindow};
     ghost use Rattle.held_zone.specs.Asleep.{IsAsleep};
     ghost use Rattle.held_zone.specs.State.{IsNew, queue_refusal, with_no_asks};
-    ghost use Rattle.held_zone.specs.Told.{Makes, MakesLoan, shown_outcome, shows};
+    ghost use Rattle.std.specs.Prelude.{IsFalse};
+    ghost use Rattle.held_zone.specs.Told.{EndsIn, Makes, MakesLoan, shown_outcome, shows};
 
     /// A new zone. Nothing is lent, no answer and no block waits, and nothing was asked. It is in memory of its own.
     pub fn create(alloc: Global, spec: ZoneSpec) -> Result<Box<Session>, HostFull>
@@ -82,6 +94,7 @@ impl Session {
             answers,
             waiting: ArrayVec::new(),
             guest: GuestFields::new(),
+            purges: Purges::new(),
         };
         Ok(Box::new(alloc, session)?)
     }
@@ -98,6 +111,19 @@ impl Session {
         // What was asked says whether answers are left.
         prove!(self.answers.asks().len() <= MOST_ASKS);
         outcome
+    }
+
+    /// Makes a call after the handles that it would purge are emptied in turn, and notes them. Where purges are held, and
+    /// it would purge one, the call is held: it is made only up to there.
+    pub fn call(&mut self, call: &MemoryCall<'_>) -> CallEnd
+        requires { IsFalse (copies call.now) }
+        ensures { EndsIn self.old call.now result self.new }
+    {
+        if !purges::purge_in_turn(&mut self.memory, &mut self.purges, call) {
+            self.answers.begin();
+            return CallEnd::Held;
+        }
+        CallEnd::Ended(self.make(call))
     }
 
     /// Peek: copies bytes of a block, from an offset on, over as many others.

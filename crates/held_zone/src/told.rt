@@ -7,6 +7,9 @@ ghost use Rattle.held_zone.specs.Told.{code_told, number_in, number_told, number
 use mac_base::error::{NO_ERR, OsErr};
 use mac_base::{Outcome, Results};
 
+/// A call is held that would purge: a host's code.
+pub const WOULD_PURGE: i16 = -1002;
+
 /// There is no zone: paramErr.
 pub const NO_ZONE: i16 = -50;
 

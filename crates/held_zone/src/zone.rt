@@ -6,7 +6,7 @@ ghost use Rattle.held_zone.specs.Held.{is_there};
 ghost use Rattle.held_zone.specs.State.{State};
 
 use crate::parked::Parked;
-use crate::session::Session;
+use crate::session::{CallEnd, Session};
 use crate::told;
 pub use held_calls::window::Window;
 use mac_base::{LoanCall, MemoryCall, Outcome};
@@ -134,36 +134,44 @@ impl MhZone {
 
 impl MhZone {
     ghost use Rattle.held_calls.specs.Making.{copies};
-    ghost use Rattle.held_zone.specs.Told.{Called, LoanCalled, LoanTold, Told, ToldNumber, ToldNumbers, shows};
+    ghost use Rattle.held_zone.specs.Told.{EndsCall, LoanCalled, LoanTold, Told, ToldNumber, ToldNumbers, shows};
 
-    /// Makes a call of the Memory Manager, where there is a zone.
-    pub fn call(&mut self, alloc: Global, call: &MemoryCall<'_>) -> Option<Outcome>
+    /// Makes a call of the Memory Manager, where there is a zone, or holds it.
+    fn call(&mut self, alloc: Global, call: &MemoryCall<'_>) -> CallEnd
         requires { IsFalse (copies call.now) }
-        ensures { Called self.old.held.session call.now result self.new.held.session }
+        ensures { EndsCall self.old.held.session call.now result self.new.held.session }
     {
-        let mut session = self.take(alloc)?;
-        let outcome = session.make(call);
+        let Some(mut session) = self.take(alloc) else {
+            return CallEnd::Ended(None);
+        };
+        let end = session.call(call);
         self.put(session);
-        outcome
+        end
     }
 
-    /// Makes a call, and returns its code.
+    /// Makes a call, or holds it, and returns its code.
     pub fn code(&mut self, alloc: Global, call: &MemoryCall<'_>) -> i16
         requires { IsFalse (copies call.now) }
         ensures { Told self.old.held.session call.now result self.new.held.session }
     {
-        told::code(&self.call(alloc, call))
+        match self.call(alloc, call) {
+            CallEnd::Held => told::WOULD_PURGE,
+            CallEnd::Ended(outcome) => told::code(&outcome),
+        }
     }
 
-    /// Makes a call, returns its code, and writes its number, where it gives one.
+    /// Makes a call, or holds it, returns its code, and writes its number, where it gives one.
     pub fn number(&mut self, alloc: Global, call: &MemoryCall<'_>, number: &mut u32) -> i16
         requires { IsFalse (copies call.now) }
         ensures { ToldNumber self.old.held.session call.now result number.old number.new self.new.held.session }
     {
-        told::number(&self.call(alloc, call), number)
+        match self.call(alloc, call) {
+            CallEnd::Held => told::WOULD_PURGE,
+            CallEnd::Ended(outcome) => told::number(&outcome, number),
+        }
     }
 
-    /// Makes a call, returns its code, and writes its two numbers, where it gives them.
+    /// Makes a call, or holds it, returns its code, and writes its two numbers, where it gives them.
     pub fn numbers(
         &mut self,
         alloc: Global,
@@ -174,7 +182,10 @@ impl MhZone {
         requires { IsFalse (copies call.now) }
         ensures { ToldNumbers self.old.held.session call.now result (first.old, second.old) (first.new, second.new) self.new.held.session }
     {
-        told::numbers(&self.call(alloc, call), first, second)
+        match self.call(alloc, call) {
+            CallEnd::Held => told::WOULD_PURGE,
+            CallEnd::Ended(outcome) => told::numbers(&outcome, first, second),
+        }
     }
 
     /// Makes a call on a block that is lent or is to be lent, where there is a zone.

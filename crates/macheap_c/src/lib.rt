@@ -16,6 +16,7 @@ mod life;
 mod look;
 mod named;
 mod partial;
+mod purges;
 mod resources;
 mod walk;
 mod wrote;

@@ -1,4 +1,4 @@
-use Rattle.std.proofs.Common.{◌≡◌, ◌∙◌, ◌-◌, ◌++◌, ap, arith, length, replicate, sym}
+use Rattle.std.proofs.Common.{◌∙◌, ◌-◌, ◌++◌, ap, arith, length, replicate, sym}
 use Rattle.held_zone.specs.Fields.{managed, new_fields, with_fields}
 use Rattle.held_zone.proofs.Filled.{filled}
 use Rattle.held_zone.proofs.Headers.{length-with}

@@ -1,4 +1,4 @@
-use Rattle.std.proofs.Common.{◌≡◌, ◌+◌, ◌-◌, ◌<◌, ◌≤◌, true, ap, arith, sym}
+use Rattle.std.proofs.Common.{ap, arith, sym}
 use Rattle.mac_base.specs.ZoneSizes.{ZoneSizes}
 use Rattle.held_zone.proofs.Keeping.{slot-above, slot-below}
 use Rattle.held_zone.proofs.NilFlags.{nil-handle}

@@ -1,4 +1,4 @@
-use Rattle.std.proofs.Common.{◌∙◌, ◌+◌, ◌≤◌, ap, arith}
+use Rattle.std.proofs.Common.{◌∙◌, ap, arith}
 use Rattle.mac_base.specs.ZoneSizes.{ZoneSizes}
 use Rattle.held_zone.proofs.NilFlags.{none-end}
 use Rattle.held_zone.proofs.nil_flags.next_nil_flags.Goals as goal

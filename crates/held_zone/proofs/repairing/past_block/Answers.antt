@@ -1,4 +1,4 @@
-use Rattle.std.proofs.Common.{◌≡◌, ◌+◌, ◌<◌, ◌≤◌, false, ap, arith, inl, inr}
+use Rattle.std.proofs.Common.{◌≡◌, false, ap, arith, inl, inr}
 use Rattle.mac_base.specs.ZoneMap.{is_master}
 use Rattle.mac_base.specs.ZoneSizes.{ZoneSizes}
 use Rattle.held_zone.proofs.Keeping.{ends-within, none-within}

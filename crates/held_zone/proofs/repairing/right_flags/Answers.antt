@@ -1,4 +1,4 @@
-use Rattle.std.proofs.Common.{◌≡◌, ◌∙◌, ◌+◌, ◌-◌, ◌<◌, ◌≤◌, ap, sym, arith}
+use Rattle.std.proofs.Common.{◌≡◌, ◌∙◌, ◌+◌, ◌-◌, ap, sym, arith}
 use Rattle.mac_base.specs.HeadKind.{head_size}
 use Rattle.mac_base.specs.HandleTable.{flags_of, live_at}
 use Rattle.mac_base.specs.ZoneSizes.{ZoneSizes}

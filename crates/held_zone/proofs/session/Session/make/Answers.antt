@@ -17,16 +17,16 @@ invariant_of-self c =
 pub returns-clause-makes : goal.returns-clause-makes
 returns-clause-makes c =
     let made = c.make_plain-outcome in let loans = loans_of c.self.inside.loans in
-    let new : State = state made.new.memory loans made.new.procedure.left made.new.procedure.asks c.self.inside.waiting.items c.self.inside.guest in
+    let new : State = state made.new.memory loans made.new.procedure.left made.new.procedure.asks c.self.inside.waiting.items c.self.inside.guest c.self.inside.purges in
     let took = made.ensures.source ∙ ap (λ (q : Queue). taken q.asks q.left) c.begin.ensures in
-    let old : State = state c.self.inside.memory loans c.self.inside.answers.left c.self.inside.answers.asks c.self.inside.waiting.items c.self.inside.guest in
+    let old : State = state c.self.inside.memory loans c.self.inside.answers.left c.self.inside.answers.asks c.self.inside.waiting.items c.self.inside.guest c.self.inside.purges in
     subst (λ (s : State). IfSome made.result (λ outcome. Makes s c.args.call.now outcome new)) c.self.view_is
-    (made-queued old new c.args.call.now made.result made.ensures.step took c.asks.ensures.out refl refl refl made.ensures.loans)
+    (made-queued old new c.args.call.now made.result made.ensures.step took c.asks.ensures.out refl refl refl refl made.ensures.loans)
 
 pub returns-clause-unmade : goal.returns-clause-unmade
 returns-clause-unmade c =
     let made = c.make_plain-outcome in let loans = loans_of c.self.inside.loans in
-    let new : State = state made.new.memory loans made.new.procedure.left made.new.procedure.asks c.self.inside.waiting.items c.self.inside.guest in
+    let new : State = state made.new.memory loans made.new.procedure.left made.new.procedure.asks c.self.inside.waiting.items c.self.inside.guest c.self.inside.purges in
     let took = made.ensures.source ∙ ap (λ (q : Queue). taken q.asks q.left) c.begin.ensures in
     subst (λ (s : State). IfNone made.result (new ≡ with_no_asks s)) c.self.view_is
-    (not-made c.self.inside.memory made.new.memory loans c.self.inside.answers.left made.new.procedure.left c.self.inside.answers.asks made.new.procedure.asks c.self.inside.waiting.items c.self.inside.guest made.result made.ensures.unchanged made.ensures.unasked took)
+    (not-made c.self.inside.memory made.new.memory loans c.self.inside.answers.left made.new.procedure.left c.self.inside.answers.asks made.new.procedure.asks c.self.inside.waiting.items c.self.inside.guest c.self.inside.purges made.result made.ensures.unchanged made.ensures.unasked took)

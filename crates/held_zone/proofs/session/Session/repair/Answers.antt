@@ -1,5 +1,4 @@
-use Rattle.std.proofs.Common.{◌≡◌, ◌∙◌, ℕ, List, [], ap, length, subst, sym}
-use Rattle.mac_base.specs.ZoneState.{ZoneState}
+use Rattle.std.proofs.Common.{◌≡◌, ◌∙◌, ℕ, List, [], ap, subst, sym}
 use Rattle.raw_region.specs.State.{State as Region}
 use Rattle.mem_calls.proofs.FlagsTaken.{part-all}
 use Rattle.held_calls.specs.declared.loans.Held.{Held}
@@ -37,7 +36,7 @@ settle-region-requires-clause-long c =
 pub returns-clause-mended : goal.returns-clause-mended
 returns-clause-mended c =
     let inside = c.self.inside in let given = c.args.region in let z = c.keep_flags.new.memory in let region = c.put_aside-fields.new.region in
-    let old : State = state inside.memory (loans_of inside.loans) inside.answers.left inside.answers.asks inside.waiting.items inside.guest in
+    let old : State = state inside.memory (loans_of inside.loans) inside.answers.left inside.answers.asks inside.waiting.items inside.guest inside.purges in
     let new : State = record old { zone = z } in
     let bytes : c.bytes.result.now ≡ managed given.bytes = c.bytes.ensures.value ∙ part-all region.bytes c.len.result c.len.ensures ∙ ap (λ (r : Region). r.bytes) c.put_aside-fields.ensures.region in
     let flags = subst (λ (xs : List ℕ). KeepsFlags inside.memory xs inside.waiting.items z) bytes (subst (λ (xs : List ℕ). KeepsFlags inside.memory c.bytes.result.now xs z) c.as_slice-waiting.ensures.value c.keep_flags.ensures) in

@@ -1,4 +1,4 @@
-use Rattle.std.proofs.Common.{◌≡◌, ◌∙◌, ◌-◌, ◌++◌, ap, length, replicate}
+use Rattle.std.proofs.Common.{◌∙◌, ◌-◌, ◌++◌, ap, length, replicate}
 use Rattle.held_zone.specs.Fields.{managed}
 use Rattle.held_zone.proofs.Guests.{none-restored}
 use Rattle.held_zone.proofs.session.Session.restore.Goals as goal

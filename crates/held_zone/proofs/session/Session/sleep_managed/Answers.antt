@@ -14,7 +14,7 @@ pub returns-clause-asleep : goal.returns-clause-asleep
 returns-clause-asleep c =
     let back = c.take_all_back.ensures in let falls = c.in-Some.ensures in
     let left = c.self.inside.answers.left in let asks = c.self.inside.answers.asks in
-    let new : State = state c.sleep.new.self (loans_of c.take_all_back.new.loans) left asks c.blocks-blocks.result.items c.self.inside.guest in
+    let new : State = state c.sleep.new.self (loans_of c.take_all_back.new.loans) left asks c.blocks-blocks.result.items c.self.inside.guest c.self.inside.purges in
     let blocks = c.blocks-blocks.ensures.blocks ∙ blocks-lent c.self.inside.loans in
     let none : c.sleep.new.self.heap.table.lent ≡ [] = sym (ap (λ (h : Heap). h.table.lent) falls.asleep.heap) ∙ back.nothing_lent in
     subst (λ (s : State). FallsAsleep s c.in-Some.region new) c.self.view_is (record {
@@ -27,14 +27,15 @@ returns-clause-asleep c =
       left = refl;
       asks = refl;
       guest = refl;
+      purges = refl;
       asleep = record { nothing_lent = none; own = falls.own; once = ap each_once blocks ∙ blocks-once c.self.inside.loans c.self.invariant.0.once };
     })
 
 pub returns-clause-again : goal.returns-clause-again
 returns-clause-again c =
     let inside = c.self.inside in let left = inside.answers.left in let asks = inside.answers.asks in
-    let new : State = state c.sleep.new.self (loans_of c.take_all_back.new.loans) left asks c.blocks-blocks.result.items c.self.inside.guest in
+    let new : State = state c.sleep.new.self (loans_of c.take_all_back.new.loans) left asks c.blocks-blocks.result.items c.self.inside.guest c.self.inside.purges in
     let falls = subst (λ (s : State). FallsAsleep s c.in-Some.region new) (sym c.self.view_is) (returns-clause-asleep c) in
     let place = c.in-Some.ensures.name ∙ ap (λ (z : ZoneState). z.memory.region) c.take_all_back.ensures.zone in
     subst (λ (s : State). WakesAsBefore s c.in-Some.region new) c.self.view_is
-    (wakes-as_before inside.memory inside.loans left asks inside.waiting.items inside.guest c.in-Some.region new c.linked.ensures.sound c.lent_count.ensures.loans c.lent_count.ensures.fixed c.self.invariant.0 c.self.invariant.1 place falls)
+    (wakes-as_before inside.memory inside.loans left asks inside.waiting.items inside.guest inside.purges c.in-Some.region new c.linked.ensures.sound c.lent_count.ensures.loans c.lent_count.ensures.fixed c.self.invariant.0 c.self.invariant.1 place falls)

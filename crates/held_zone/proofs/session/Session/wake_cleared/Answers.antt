@@ -1,4 +1,4 @@
-use Rattle.std.proofs.Common.{◌≡◌, ◌∙◌, ap, refl}
+use Rattle.std.proofs.Common.{◌∙◌, ap, refl}
 use Rattle.raw_region.specs.State.{State as Region}
 use Rattle.mem_calls.proofs.FlagsTaken.{part-all}
 use Rattle.held_zone.proofs.Guests.{sleeps-cleared}

@@ -22,7 +22,7 @@ returns-in-Err-wake_in-clause-asleep c =
     let damaged = c.in-Err-wake_in.ensures.damaged in (
       subst (λ (s : State). HasStructure s.zone c.args.region.bytes → ⊥) c.self.view_is damaged.0,
       damaged.1,
-      ap (λ (z : ZoneState). state z (loans_of c.self.inside.loans) c.self.inside.answers.left c.self.inside.answers.asks c.self.inside.waiting.items c.self.inside.guest) damaged.2 ∙ c.self.view_is,
+      ap (λ (z : ZoneState). state z (loans_of c.self.inside.loans) c.self.inside.answers.left c.self.inside.answers.asks c.self.inside.waiting.items c.self.inside.guest c.self.inside.purges) damaged.2 ∙ c.self.view_is,
     )
 
 pub lend_all-requires-clause-holds : goal.lend_all-requires-clause-holds
@@ -62,6 +62,6 @@ returns-clause-awake c =
     c.lend_all.ensures.zone ∙ (λ i. with_heap (with_these_lent (c.as_slice.ensures.value i) (woken.1 i).heap) (woken.1 i)) in
     let loans : loans_of c.lend_all.new.loans ≡ new_loans (shown inside.memory region.bytes).heap.table inside.waiting.items =
     c.lend_all.ensures.loans ∙ (λ i. new_loans (woken.1 i).heap.table (c.as_slice.ensures.value i)) in
-    let new : State = state c.lend_all.new.memory (loans_of c.lend_all.new.loans) left asks c.clear.new.self.items inside.guest in
+    let new : State = state c.lend_all.new.memory (loans_of c.lend_all.new.loans) left asks c.clear.new.self.items inside.guest inside.purges in
     subst (λ (s : State). HasStructure s.zone region.bytes × IsTrue (all_lendable s region.bytes) × (new ≡ awake_as region s)) c.self.view_is
-    (woken.0, (lendable woken.0).each, λ i. state (zone i) (loans i) left asks (c.clear.ensures i) inside.guest)
+    (woken.0, (lendable woken.0).each, λ i. state (zone i) (loans i) left asks (c.clear.ensures i) inside.guest inside.purges)

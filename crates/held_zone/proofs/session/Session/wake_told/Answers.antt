@@ -1,4 +1,4 @@
-use Rattle.std.proofs.Common.{◌≡◌, ◌∙◌, ◌≤◌, ap, arith, length, refl, subst, sym}
+use Rattle.std.proofs.Common.{◌∙◌, ◌≤◌, ap, arith, length, refl, subst, sym}
 use Rattle.mac_base.specs.HeadKind.{zone_header}
 use Rattle.raw_region.specs.State.{State as Region}
 use Rattle.held_calls.specs.Holding.{loans_of}
@@ -29,7 +29,7 @@ write_in-requires-clause-long c =
 pub returns-in-Ok-clause-awake : goal.returns-in-Ok-clause-awake
 returns-in-Ok-clause-awake c =
     let old = c.args.self.now in let inside = c.self.inside in
-    let now : State = state inside.memory (loans_of inside.loans) inside.answers.left inside.answers.asks inside.waiting.items inside.guest in
+    let now : State = state inside.memory (loans_of inside.loans) inside.answers.left inside.answers.asks inside.waiting.items inside.guest inside.purges in
     let given = c.in-Ok.ensures.awake in
     let takes = subst (λ (r : Region). Takes old.zone r.bytes given.0) c.put_aside-fields.ensures.region given.1 in
     let wakes = subst (λ (r : Region). AwakeTaking given.0 r old c.wake_taking.new.self) c.put_aside-fields.ensures.region given.2 in
