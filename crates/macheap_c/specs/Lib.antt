@@ -8,3 +8,4 @@ pub mod Walk
 pub mod Wrote
 pub mod Partial
 pub mod Look
+pub mod SavedState

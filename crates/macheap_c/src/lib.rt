@@ -17,5 +17,6 @@ mod look;
 mod named;
 mod partial;
 mod resources;
+mod saved_state;
 mod walk;
 mod wrote;
