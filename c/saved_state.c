@@ -255,7 +255,7 @@ static void hostile(void) {
     saved[where - 3] ^= 0x0F;
     IS(loads(&world.zone, saved, count), 0);
     saved[where - 3] ^= 0x0F;
-    /* files that can't be saved: a handle was disposed of, and they weren't told */
+    /* files that can't be saved: a handle was disposed of, and they don't know it */
     IS(mh_dispose_handle(&world.zone, second), MH_NO_ERR);
     IS(mr_save_size(&world.files, &world.zone, &count), MR_BAD_STATE);
     IS(mr_save(&world.files, &world.zone, again, 100), MR_BAD_STATE);

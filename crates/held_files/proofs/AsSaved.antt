@@ -89,38 +89,43 @@ same_saved on now is chain stores loads stores_are loads_are =
 
 -- the bytes of files that are saved
 pub saves-seen : (on : FilesOn Store) (now : ForksState) → seen_on on ≡ now → (chain : OpenFiles Place) (stores : List Store) (loads : Bool) → stores ≡ on.stores → loads ≡ on.loads
-    → on.files ≡ files_on (map disk_of on.stores) chain → (table : HandleTable) (result : Result (Vec ℕ) SaveFault)
+    → on.files ≡ files_on (map disk_of on.stores) chain → (over table : HandleTable) → over ≡ table → (result : Result (Vec ℕ) SaveFault)
     → IfOk result (λ bytes. bytes.items ≡ saved_text (record { chain = chain; loads = loads; disks = map disk_of stores }))
-    → IfOk result (λ _. CanBeSaved table (record { chain = chain; loads = loads; disks = map disk_of stores }))
+    → IfOk result (λ _. CanBeSaved over (record { chain = chain; loads = loads; disks = map disk_of stores }))
     → IfOk result (λ bytes. IsSavedOver table now bytes.items)
-saves-seen on now is chain stores loads stores_are loads_are seen table (Err fault) text can = tt
-saves-seen on now is chain stores loads stores_are loads_are seen table (Ok bytes) text can = record {
+saves-seen on now is chain stores loads stores_are loads_are seen over table over_is (Err fault) text can = tt
+saves-seen on now is chain stores loads stores_are loads_are seen over table over_is (Ok bytes) text can = record {
   chain = chain;
   seen = subst (λ (s : ForksState). s.files ≡ files_on s.disks chain) is seen;
-  saved = subst (λ (s : Saved). IsSavedAs table s bytes.items) (same_saved on now is chain stores loads stores_are loads_are) (can, text);
+  saved = subst (λ (t : HandleTable). IsSavedAs t (saved_of now chain) bytes.items) over_is
+      (subst (λ (s : Saved). IsSavedAs over s bytes.items) (same_saved on now is chain stores loads stores_are loads_are) (can, text));
 }
 
 -- files that can't be saved
 pub cant-seen : (on : FilesOn Store) (now : ForksState) → seen_on on ≡ now → (chain : OpenFiles Place) (stores : List Store) (loads : Bool) → stores ≡ on.stores → loads ≡ on.loads
-    → on.files ≡ files_on (map disk_of on.stores) chain → OnStores on.stores chain → (table : HandleTable)
-    → ¬ CanBeSaved table (record { chain = chain; loads = loads; disks = map disk_of stores }) → CantBeSaved table now
-cant-seen on now is chain stores loads stores_are loads_are seen placed table cant = record {
+    → on.files ≡ files_on (map disk_of on.stores) chain → OnStores on.stores chain → (over table : HandleTable) → over ≡ table
+    → ¬ CanBeSaved over (record { chain = chain; loads = loads; disks = map disk_of stores }) → CantBeSaved table now
+cant-seen on now is chain stores loads stores_are loads_are seen placed over table over_is cant = record {
   chain = chain;
   seen = subst (λ (s : ForksState). s.files ≡ files_on s.disks chain) is seen;
   placed = subst (λ (s : ForksState). StandOnForks s.disks chain) is (on_forks on.stores chain placed);
-  cant = subst (λ (s : Saved). ¬ CanBeSaved table s) (same_saved on now is chain stores loads stores_are loads_are) cant;
+  cant = subst (λ (t : HandleTable). ¬ CanBeSaved t (saved_of now chain)) over_is
+      (subst (λ (s : Saved). ¬ CanBeSaved over s) (same_saved on now is chain stores loads stores_are loads_are) cant);
 }
 
 -- files that are made of bytes
-pub loads-seen : (table : HandleTable) (bytes : List ℕ) (files : SavedFiles) (new : ForksState) → new.files ≡ files_on new.disks files.chain → new.loads ≡ files.loads → new.disks ≡ map disk_of files.stores.items
-    → IsSavedAs table (saved_in files) bytes → ((s : Saved) → IsSavedAs table s bytes → saved_in files ≡ s) → AreAsSaved table bytes new
-loads-seen table bytes files new seen loads disks saved same =
-    let here : saved_in files ≡ saved_of new files.chain = cc (loads, disks) in
-    record {
-      saved = record { chain = files.chain; seen = seen; saved = subst (λ (s : Saved). IsSavedAs table s bytes) here saved };
-      same = λ other was.
-        let one = sym here ∙ same (saved_of other was.chain) was.saved in
-        let chains = ap (λ (s : Saved). s.chain) one in
-        let forks = ap (λ (s : Saved). s.disks) one in
-        (seen ∙ ap (λ (s : Saved). files_on s.disks s.chain) one ∙ sym was.seen, ap (λ (s : Saved). s.loads) one, forks);
-    }
+pub loads-seen : (over table : HandleTable) → over ≡ table → (bytes : List ℕ) (files : SavedFiles) (new : ForksState) → new.files ≡ files_on new.disks files.chain → new.loads ≡ files.loads
+    → new.disks ≡ map disk_of files.stores.items → IsSavedAs over (saved_in files) bytes → ((s : Saved) → IsSavedAs over s bytes → saved_in files ≡ s) → AreAsSaved table bytes new
+loads-seen over table over_is bytes files new seen loads disks saved same = subst (λ (t : HandleTable). AreAsSaved t bytes new) over_is (record {
+  saved = record { chain = files.chain; seen = seen; saved = subst (λ (s : Saved). IsSavedAs over s bytes) here saved };
+  same = λ other was.
+    let one = sym here ∙ same (saved_of other was.chain) was.saved in
+    (seen ∙ ap (λ (s : Saved). files_on s.disks s.chain) one ∙ sym was.seen, ap (λ (s : Saved). s.loads) one, ap (λ (s : Saved). s.disks) one);
+})
+  where
+    here : saved_in files ≡ saved_of new files.chain
+    here = cc (loads, disks)
+
+-- bytes of no files
+pub none-seen : (over table : HandleTable) → over ≡ table → (bytes : List ℕ) → ((s : Saved) → ¬ IsSavedAs over s bytes) → (other : ForksState) → ¬ IsSavedOver table other bytes
+none-seen over table over_is bytes none = subst (λ (t : HandleTable). (other : ForksState) → ¬ IsSavedOver t other bytes) over_is (λ other was. none (saved_of other was.chain) was.saved)

@@ -8,7 +8,7 @@ use Rattle.mac_base.specs.HandleTable.{HandleTable}
 use Rattle.res_files.specs.Standing.{files_on}
 use Rattle.res_table.specs.OpenFiles.{OpenFiles}
 use Rattle.row_image.specs.declared.fault.SaveFault.{SaveFault}
-use Rattle.row_image.specs.declared.fault.SaveFault.TheVariants.{HostFull, NotSound}
+use Rattle.row_image.specs.declared.fault.SaveFault.TheVariants.{NotSound}
 use Rattle.saved_files.specs.Saved.{Saved}
 use Rattle.saved_files.specs.Sound.{CanBeSaved, IsSavedAs, StandOnForks}
 
@@ -38,8 +38,7 @@ pub record AreAsSaved (table : HandleTable) (bytes : List ℕ) (new : ForksState
 -- can't be saved. Else nothing is saved.
 abbrev pub Saves : Option State → Option ForksState → Option (Result (Vec ℕ) SaveFault) → Type 0
 Saves (Some zone) (Some files) (Some (Ok bytes)) = IsSavedOver zone.zone.heap.table files bytes.items
-Saves (Some zone) (Some files) (Some (Err HostFull)) = ⊤
-Saves (Some zone) (Some files) (Some (Err NotSound)) = CantBeSaved zone.zone.heap.table files
+Saves (Some zone) (Some files) (Some (Err fault)) = fault ≡ NotSound → CantBeSaved zone.zone.heap.table files
 Saves (Some zone) None None = ⊤
 Saves None files None = ⊤
 Saves _ _ _ = ⊥
@@ -48,8 +47,7 @@ Saves _ _ _ = ⊥
 -- host has no memory, or no files that can be saved over it are saved as these bytes. Else the files stay.
 abbrev pub Loads : Option State → Option ForksState → List ℕ → Option (Result (Unit {0}) SaveFault) → Option ForksState → Type 0
 Loads (Some zone) None bytes (Some (Ok done)) (Some new) = AreAsSaved zone.zone.heap.table bytes new
-Loads (Some zone) None bytes (Some (Err HostFull)) new = new ≡ None
-Loads (Some zone) None bytes (Some (Err NotSound)) new = (new ≡ None) × ((other : ForksState) → ¬ IsSavedOver zone.zone.heap.table other bytes)
+Loads (Some zone) None bytes (Some (Err fault)) new = (new ≡ None) × (fault ≡ NotSound → (other : ForksState) → ¬ IsSavedOver zone.zone.heap.table other bytes)
 Loads (Some zone) (Some files) bytes None new = new ≡ Some files
 Loads None files bytes None new = new ≡ files
 Loads _ _ bytes _ _ = ⊥
