@@ -1,5 +1,5 @@
 -- Files whose forks are in memory, as `saved_files` saves them and makes them again.
-use Rattle.std.proofs.Common.{◌≡◌, ◌∙◌, ℕ, ◌-◌, Bool, List, [], ◌∷◌, length, map, slice_get, Option, None, Some, IfSome, Result, Ok, Err, IfOk, IsErrOf, ap, sym, subst, arith}
+use Rattle.std.proofs.Common.{◌≡◌, ◌∙◌, ℕ, ◌-◌, Bool, List, [], ◌∷◌, length, map, slice_get, Option, None, Some, IfSome, Result, Ok, Err, IfOk, ap, refl, sym, subst, arith}
 use Rattle.std.specs.Global.{Vec}
 use Rattle.std.specs.Prelude.{⊤}
 use Rattle.std.specs.List.{AllByRecursion}
@@ -19,7 +19,6 @@ use Rattle.res_table.specs.OpenFiles.{OpenFiles}
 use Rattle.res_update.specs.Device.{Disk}
 use Rattle.res_update.specs.Placed.{Holds}
 use Rattle.row_image.specs.declared.fault.SaveFault.{SaveFault}
-use Rattle.row_image.specs.declared.fault.SaveFault.TheVariants.{NotSound}
 use Rattle.saved_files.specs.declared.loading.SavedFiles.{SavedFiles}
 use Rattle.saved_files.specs.Parts.{saved_in}
 use Rattle.saved_files.specs.Saved.{Saved, saved_text}
@@ -114,17 +113,15 @@ cant-seen on now is chain stores loads stores_are loads_are seen placed over tab
 }
 
 -- files that are made of bytes
-pub loads-seen : (over table : HandleTable) → over ≡ table → (bytes : List ℕ) (files : SavedFiles) (new : ForksState) → new.files ≡ files_on new.disks files.chain → new.loads ≡ files.loads
-    → new.disks ≡ map disk_of files.stores.items → IsSavedAs over (saved_in files) bytes → ((s : Saved) → IsSavedAs over s bytes → saved_in files ≡ s) → AreAsSaved table bytes new
-loads-seen over table over_is bytes files new seen loads disks saved same = subst (λ (t : HandleTable). AreAsSaved t bytes new) over_is (record {
-  saved = record { chain = files.chain; seen = seen; saved = subst (λ (s : Saved). IsSavedAs over s bytes) here saved };
+pub loads-seen : (over table : HandleTable) → over ≡ table → (bytes : List ℕ) (files : SavedFiles) (new : ForksState)
+    → new ≡ seen_on (record { files = files_on (map disk_of files.stores.items) files.chain; loads = files.loads; stores = files.stores.items })
+    → IsSavedAs over (saved_in files) bytes → ((s : Saved) → IsSavedAs over s bytes → saved_in files ≡ s) → AreAsSaved table bytes new
+loads-seen over table over_is bytes files new new_is saved same = subst (λ (t : HandleTable). AreAsSaved t bytes new) over_is (subst (λ (n : ForksState). AreAsSaved over bytes n) (sym new_is) (record {
+  saved = record { chain = files.chain; seen = refl; saved = saved };
   same = λ other was.
-    let one = sym here ∙ same (saved_of other was.chain) was.saved in
-    (seen ∙ ap (λ (s : Saved). files_on s.disks s.chain) one ∙ sym was.seen, ap (λ (s : Saved). s.loads) one, ap (λ (s : Saved). s.disks) one);
-})
-  where
-    here : saved_in files ≡ saved_of new files.chain
-    here = cc (loads, disks)
+    let one = same (saved_of other was.chain) was.saved in
+    (ap (λ (s : Saved). files_on s.disks s.chain) one ∙ sym was.seen, ap (λ (s : Saved). s.loads) one, ap (λ (s : Saved). s.disks) one);
+}))
 
 -- bytes of no files
 pub none-seen : (over table : HandleTable) → over ≡ table → (bytes : List ℕ) → ((s : Saved) → ¬ IsSavedAs over s bytes) → (other : ForksState) → ¬ IsSavedOver table other bytes
