@@ -119,8 +119,8 @@ pub loads-seen : (over table : HandleTable) → over ≡ table → (bytes : List
 loads-seen over table over_is bytes files new new_is saved same = subst (λ (t : HandleTable). AreAsSaved t bytes new) over_is (subst (λ (n : ForksState). AreAsSaved over bytes n) (sym new_is) (record {
   saved = record { chain = files.chain; seen = refl; saved = saved };
   same = λ other was.
-    let one = same (saved_of other was.chain) was.saved in
-    (ap (λ (s : Saved). files_on s.disks s.chain) one ∙ sym was.seen, ap (λ (s : Saved). s.loads) one, ap (λ (s : Saved). s.disks) one);
+      let one = same (saved_of other was.chain) was.saved in
+      (ap (λ (s : Saved). files_on s.disks s.chain) one ∙ sym was.seen, ap (λ (s : Saved). s.loads) one, ap (λ (s : Saved). s.disks) one);
 }))
 
 -- bytes of no files
