@@ -47,6 +47,21 @@ static MhErr adds(MrFiles *files, MhZone *zone) {
 static MhErr updates(MrFiles *files, MhZone *zone) { return mr_update_res_file(files, zone, 1); }
 static MhErr sizes(MrFiles *files, MhZone *zone) { return mr_set_resource_size(files, zone, number, 900); }
 
+static uint8_t saved[2 * MOST];
+static size_t count_saved;
+static MhErr saves(MrFiles *files, MhZone *zone) {
+    MhErr code = mr_save_size(files, zone, &count_saved);
+    MUST(count_saved <= sizeof saved);
+    return code == MH_NO_ERR ? mr_save(files, zone, saved, count_saved) : code;
+}
+static MhErr loads(MrFiles *files, MhZone *zone) {
+    MrFiles again = MR_NO_FILES;
+    (void)files;
+    MhErr code = mr_load(&again, zone, saved, count_saved);
+    MUST(mr_end(&again) == (code == MH_NO_ERR ? MH_NO_ERR : MH_PARAM_ERR));
+    return code;
+}
+
 /* The call with each of its allocations failing in turn, after those before it. */
 static void in_turn(Makes *const *before, size_t some, Makes *call) {
     MhErr code = MH_MEM_FULL_ERR;
@@ -80,12 +95,14 @@ static MhErr makes(MrFiles *files, MhZone *zone) {
 }
 
 static void files_in_turn(void) {
-    Makes *const steps[] = {begins, opens, makes, adds};
+    Makes *const steps[] = {begins, opens, makes, adds, saves};
     in_turn(steps, 0, begins);
     in_turn(steps, 2, adds);
     in_turn(steps, 4, sizes);
     in_turn(steps, 4, updates);
     in_turn(steps, 1, opens);
+    in_turn(steps, 4, saves);
+    in_turn(steps, 5, loads);
 }
 
 /* Zones made of bytes. */

@@ -14,8 +14,9 @@
  * Files know handles as numbers. So that these stay those of their resources, a program does this; else a call may
  * take another block for a resource's, and harms nothing of the host:
  *  - It gives each call on files the same zone, from the first handle on.
- *  - A zone made of saved bytes goes with files that are opened anew: these know none of its handles, and load each
- *    resource that they get once more. What was loaded is released, or detached, before the bytes are saved.
+ *  - A zone made of saved bytes goes with the files that mr_load makes, of bytes that mr_save copied with those. Files
+ *    that are opened anew know none of its handles, and load each resource that they get once more: what was loaded
+ *    is released, or detached, before the bytes are saved.
  *  - It disposes of handles by mr_dispose_handle, and after each call of macheap.h that asked (mh_asked) it calls
  *    mr_forget. A call of this header needs none after it: it has forgotten what its answers disposed of, and may
  *    have got that number for a new handle.
@@ -47,7 +48,8 @@ enum {
     MR_RMV_RES_FAILED = -196,
     MR_RES_ATTR_ERR = -198, /* the resource's attributes forbid the call */
     MR_MAP_READ_ERR = -199, /* the resource map is damaged */
-    MR_TOO_BIG = -1001      /* no code of a Macintosh: the fork is bigger than mr_open takes */
+    MR_TOO_BIG = -1001,     /* no code of a Macintosh: the fork is bigger than mr_open takes */
+    MR_BAD_STATE = -1003    /* no code of a Macintosh: files that can't be saved, or no saved files of this zone */
 };
 
 /* Resource files, or none. Its fields are the library's. */
@@ -74,6 +76,19 @@ MhErr mr_open(MrFiles *files, MhZone *zone, const uint8_t *fork, size_t length, 
  * another one. */
 MhErr mr_fork_size(MrFiles *files, uint32_t file, size_t *length);
 MhErr mr_fork(MrFiles *files, uint32_t file, uint8_t *fork, size_t length);
+
+/* Save states, with mh_image or the guest's memory: all that the files are, as bytes. mr_save_size says how many there
+ * are, and mr_save copies just so many; paramErr where `count` is another number. mr_load makes files of them where
+ * none have begun (paramErr), over the same zone or one that has its handles, as one made of its bytes: each call does
+ * then what it would have done without the pause. Forks, those of closed files too, the files' numbers and order, the
+ * current file, what mr_set_res_load set, and what each resource is, with its handle and whether it was changed, are
+ * as they were. Call mr_forget before, if the zone's last call asked. It is MR_BAD_STATE where files can't be saved,
+ * since a resource's handle isn't live, or two resources have it, or the names of a file have more bytes than a fork
+ * can say; and where no mr_save over this zone copies these bytes, whoever wrote them. Nothing has changed then, nor
+ * where the host has no memory (memFullErr). The bytes are this library's own; the 13th is their version. */
+MhErr mr_save_size(MrFiles *files, MhZone *zone, size_t *size);
+MhErr mr_save(MrFiles *files, MhZone *zone, uint8_t *bytes, size_t count);
+MhErr mr_load(MrFiles *files, MhZone *zone, const uint8_t *bytes, size_t count);
 
 /* Resources. `kind` is a resource type as a number, its first letter in the highest byte: 0x54455854 for 'TEXT'.
  * mr_get_resource looks in the current file and then in those opened before it; those whose names have a 1 look in

@@ -44,7 +44,6 @@ STAYS = {
     "crates/zone_records/proofs/FaultFronts.antt: front-long": "beside whole-long: how long such bytes are",
     "crates/zone_records/proofs/FreeWalk.antt: walked-none": "beside the other steps of the walk: its start",
     "crates/zone_records/proofs/OwnBytes.antt: part-of": "beside rest-of: the part before that rest",
-    "crates/res_files/src/saving.rt: restored": "what makes resource files of a saved state, which no program does yet",
     "crates/script_tests/src/files.rt: run_over_files": "a theorem, which nothing calls",
     "crates/script_tests/src/files.rt: run_over_journalled_files": "a theorem, which nothing calls",
     "crates/script_tests/src/files.rt: files_can_be_honest": "a theorem, which nothing calls",

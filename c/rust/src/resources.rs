@@ -68,6 +68,22 @@ impl Files {
         Ok(fork)
     }
 
+    /// All that the files are, as bytes, for `load` over the same zone or one that is made of its bytes.
+    pub fn save(&mut self, zone: &mut Zone) -> Result<Vec<u8>> {
+        let mut size = 0;
+        told(unsafe { sys::mr_save_size(&mut self.0, &mut zone.0, &mut size) })?;
+        let mut bytes = vec![0; size];
+        told(unsafe { sys::mr_save(&mut self.0, &mut zone.0, bytes.as_mut_ptr(), bytes.len()) })?;
+        Ok(bytes)
+    }
+
+    /// The files that were saved as these bytes, as they were.
+    pub fn load(zone: &mut Zone, bytes: &[u8]) -> Result<Files> {
+        let mut files = Files(MR_NO_FILES);
+        told(unsafe { sys::mr_load(&mut files.0, &mut zone.0, bytes.as_ptr(), bytes.len()) })?;
+        Ok(files)
+    }
+
     pub fn get_named_resource(&mut self, zone: &mut Zone, kind: ResType, name: &[u8]) -> Result<u32> {
         let mut handle = 0;
         let (at, length) = (name.as_ptr(), name.len());

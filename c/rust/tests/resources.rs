@@ -113,3 +113,23 @@ fn some_bytes_are_written_to_the_fork() {
     let text = files.get_resource(&mut zone, TEXT, 128).unwrap();
     assert_eq!(bytes_of(&mut zone, text), b"X1234567abc\0");
 }
+
+#[test]
+fn files_are_saved_and_loaded() {
+    let fork = fork_with(&[(TEXT, 128, b"Read Me", b"Hello"), (STR, -5, b"", b"\x03Mac")]);
+    let (mut zone, mut files) = (zone(), Files::new().unwrap());
+    let file = files.open(&mut zone, &fork).unwrap();
+    let text = files.get_resource(&mut zone, TEXT, 128).unwrap();
+    files.changed_resource(&mut zone, text).unwrap();
+    let bytes = files.save(&mut zone).unwrap();
+    drop(files);
+    let mut other = self::zone();
+    assert_eq!(Files::load(&mut other, &bytes).err(), Some(OsErr(sys::MR_BAD_STATE)));
+    let mut files = Files::load(&mut zone, &bytes).unwrap();
+    assert_eq!(files.get_resource(&mut zone, TEXT, 128), Ok(text));
+    assert_eq!(files.home_res_file(&mut zone, text), Ok(file));
+    zone.poke(text, 0, b"J").unwrap();
+    files.update_res_file(&mut zone, file).unwrap();
+    let changed = fork_with(&[(TEXT, 128, b"Read Me", b"Jello"), (STR, -5, b"", b"\x03Mac")]);
+    assert_eq!(files.fork(file).unwrap(), changed);
+}

@@ -4,3 +4,4 @@ pub mod Numbers
 pub mod Seeking
 mod Reading
 mod Patching
+mod AsSaved

@@ -6,3 +6,4 @@ pub mod Told
 pub mod Counting
 pub mod Partial
 pub mod Patching
+pub mod Saving

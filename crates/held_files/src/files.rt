@@ -18,6 +18,8 @@ use mac_base::releasing::ReleasingCall;
 use mac_base::{BlockCall, MemoryCall, Outcome, ResourceCall};
 use res_files::{MOST_FILES, ResourceFiles};
 use res_update::{CountingCall, PartialEnd, PatchingCall, SeekingCall};
+use row_image::SaveFault;
+use saved_files::SavedFiles;
 use std::alloc::Global;
 use std::marker::Model;
 
@@ -303,6 +305,48 @@ impl ForkFiles {
         ensures { result ≡ counted call self.now.files }
     {
         res_manager::count(&self.files, call)
+    }
+}
+
+impl ForkFiles {
+    ghost use Rattle.std.specs.Prelude.{IsErrOf};
+    ghost use Rattle.held_files.specs.Forks.{ForksState};
+    ghost use Rattle.held_files.specs.Saving.{AreAsSaved, CantBeSaved, IsSavedOver};
+
+    /// The files as bytes, in the format of `saved_files`, over the zone of a session. The fault is NotSound exactly
+    /// where they can't be saved over it: a handle of a row isn't live, or another row has it, or the rows of a file fit
+    /// no fork, or files are open and none is the current one.
+    pub fn save(&self, alloc: Global, session: &Session) -> Result<Vec<u8>, SaveFault>
+        ensures saved { IfOk result (λ bytes. IsSavedOver session.now.zone.heap.table self.now bytes.items) }
+        ensures refused { IsErrOf result SaveFault.NotSound → CantBeSaved session.now.zone.heap.table self.now }
+    {
+        saved_files::save(
+            alloc,
+            session.memory.linked(),
+            self.files.chain(),
+            self.files.stores(),
+            self.files.loads(),
+        )
+    }
+
+    /// The files of which these bytes were saved over the zone of a session, as they were. The fault is NotSound exactly
+    /// where no files that can be saved over it are saved as these bytes.
+    pub fn load(alloc: Global, session: &Session, bytes: &[u8]) -> Result<Box<ForkFiles>, SaveFault>
+        ensures loaded { IfOk result (λ files. AreAsSaved session.now.zone.heap.table bytes.now files.value) }
+        ensures refused { IsErrOf result SaveFault.NotSound → (other : ForksState) → ¬ IsSavedOver session.now.zone.heap.table other bytes.now }
+    {
+        let SavedFiles {
+            chain,
+            stores,
+            loads,
+        } = saved_files::load(alloc, session.memory.linked(), bytes)?;
+        let files = ForkFiles {
+            files: ResourceFiles::restored(alloc, chain, stores, loads),
+        };
+        match Box::new(alloc, files) {
+            Ok(files) => Ok(files),
+            Err(_) => Err(SaveFault::HostFull),
+        }
     }
 }
 

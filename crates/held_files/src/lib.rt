@@ -5,4 +5,5 @@ mod counting;
 pub mod files;
 pub mod held;
 mod partial;
+mod saving;
 pub mod told;

@@ -9,3 +9,4 @@ pub mod Wrote
 pub mod Partial
 pub mod Look
 pub mod Purges
+pub mod SavedState

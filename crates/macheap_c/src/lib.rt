@@ -18,5 +18,6 @@ mod named;
 mod partial;
 mod purges;
 mod resources;
+mod saved_state;
 mod walk;
 mod wrote;
