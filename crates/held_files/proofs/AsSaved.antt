@@ -1,6 +1,5 @@
 -- Files whose forks are in memory, as `saved_files` saves them and makes them again.
-use Rattle.std.proofs.Common.{◌≡◌, ◌∙◌, ℕ, ◌-◌, Bool, List, [], ◌∷◌, length, map, slice_get, Option, None, Some, IfSome, Result, Ok, Err, IfOk, ap, refl, sym, subst, arith}
-use Rattle.std.specs.Global.{Vec}
+use Rattle.std.proofs.Common.{◌≡◌, ◌∙◌, ℕ, ◌-◌, Bool, List, [], ◌∷◌, map, slice_get, Option, None, Some, IfSome, ap, refl, sym, subst, arith}
 use Rattle.std.specs.Prelude.{⊤}
 use Rattle.std.specs.List.{AllByRecursion}
 use Rattle.std.specs.Option.{option_map}
@@ -18,10 +17,9 @@ use Rattle.res_table.specs.declared.chain.OpenFile.{OpenFile}
 use Rattle.res_table.specs.OpenFiles.{OpenFiles}
 use Rattle.res_update.specs.Device.{Disk}
 use Rattle.res_update.specs.Placed.{Holds}
-use Rattle.row_image.specs.declared.fault.SaveFault.{SaveFault}
 use Rattle.saved_files.specs.declared.loading.SavedFiles.{SavedFiles}
 use Rattle.saved_files.specs.Parts.{saved_in}
-use Rattle.saved_files.specs.Saved.{Saved, saved_text}
+use Rattle.saved_files.specs.Saved.{Saved}
 use Rattle.saved_files.specs.Sound.{CanBeSaved, IsSavedAs, StandOnForks, disk_of}
 
 -- a store in memory
@@ -85,20 +83,6 @@ same_saved on now is chain stores loads stores_are loads_are =
     let disks = ap (map disk_of) stores_are ∙ ap (λ (s : ForksState). s.disks) is in
     let loaded = loads_are ∙ ap (λ (s : ForksState). s.loads) is in
     cc (disks, loaded)
-
--- the bytes of files that are saved
-pub saves-seen : (on : FilesOn Store) (now : ForksState) → seen_on on ≡ now → (chain : OpenFiles Place) (stores : List Store) (loads : Bool) → stores ≡ on.stores → loads ≡ on.loads
-    → on.files ≡ files_on (map disk_of on.stores) chain → (over table : HandleTable) → over ≡ table → (result : Result (Vec ℕ) SaveFault)
-    → IfOk result (λ bytes. bytes.items ≡ saved_text (record { chain = chain; loads = loads; disks = map disk_of stores }))
-    → IfOk result (λ _. CanBeSaved over (record { chain = chain; loads = loads; disks = map disk_of stores }))
-    → IfOk result (λ bytes. IsSavedOver table now bytes.items)
-saves-seen on now is chain stores loads stores_are loads_are seen over table over_is (Err fault) text can = tt
-saves-seen on now is chain stores loads stores_are loads_are seen over table over_is (Ok bytes) text can = record {
-  chain = chain;
-  seen = subst (λ (s : ForksState). s.files ≡ files_on s.disks chain) is seen;
-  saved = subst (λ (t : HandleTable). IsSavedAs t (saved_of now chain) bytes.items) over_is
-      (subst (λ (s : Saved). IsSavedAs over s bytes.items) (same_saved on now is chain stores loads stores_are loads_are) (can, text));
-}
 
 -- files that can't be saved
 pub cant-seen : (on : FilesOn Store) (now : ForksState) → seen_on on ≡ now → (chain : OpenFiles Place) (stores : List Store) (loads : Bool) → stores ≡ on.stores → loads ≡ on.loads
