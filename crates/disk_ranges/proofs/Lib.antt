@@ -1,3 +1,3 @@
 pub mod Steps
 pub mod Whole
-pub mod Within
+pub mod Parts

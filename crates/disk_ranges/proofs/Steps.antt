@@ -41,12 +41,16 @@ reads range ranges disk skipped n count inside within is =
   where
     rest : List ℕ
     rest = bytes_of ranges disk
+
     left : List ℕ
     left = bytes_at (range.length - skipped) (range.at + skipped) disk
+
     long : length left ≡ range.length - skipped
     long = let whole = length-drop (range.at + skipped) disk in length-take-le (range.length - skipped) (drop (range.at + skipped) disk) (omega (arith, whole))
+
     front : bytes_at n skipped (bytes_at range.length range.at disk ++ rest) ≡ take n (left ++ rest)
     front = let whole = range_length range disk inside in ap (take n) (drop-append-le skipped (bytes_at range.length range.at disk) rest (omega (arith, whole)) ∙ ap (λ (xs : List ℕ). xs ++ rest) (left_of range disk skipped within))
+
     by_case : ((range.length - skipped) < n) ⊎ (n ≤ (range.length - skipped)) → take n (left ++ rest) ≡ bytes_at count (range.at + skipped) disk ++ bytes_at (n - count) 0 rest
     by_case (inl more) =
         let this : count ≡ range.length - skipped = omega arith in
@@ -102,7 +106,7 @@ reads_on ranges i disk skipped filled count k old new part wanted at inside past
     let rest = bytes_of (drop (i + 1) ranges) disk in
     let left : length new - (filled + count) ≡ n - count = omega (arith, long) in
     let front : take (filled + count) new ≡ take filled old ++ part =
-        ap (take (filled + count)) is_new ∙ take-put_mid filled k old part (filled + count) (omega (arith, part_long)) within in
+    ap (take (filled + count)) is_new ∙ take-put_mid filled k old part (filled + count) (omega (arith, part_long)) within in
     ap (λ (m : ℕ). take (filled + count) new ++ bytes_at m 0 rest) left
     ∙ ap (λ (xs : List ℕ). xs ++ bytes_at (n - count) 0 rest) front
     ∙ append_assoc (take filled old) part (bytes_at (n - count) 0 rest)

@@ -34,8 +34,8 @@ lie_after seen is_honest is_stable old new ranges size lie keeps = record {
   short = lie.short;
   whole = lie.whole;
   inside = λ honest. (
-    let kept = keeps honest in
-    subst (λ (bytes : List ℕ). AllByRecursion (IsInDisk (length bytes)) ranges) (sym kept.same) (lie.inside kept.honest));
+      let kept = keeps honest in
+      subst (λ (bytes : List ℕ). AllByRecursion (IsInDisk (length bytes)) ranges) (sym kept.same) (lie.inside kept.honest));
 }
 
 -- what the range at an index and those after it have, those from there on have

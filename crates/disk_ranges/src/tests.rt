@@ -34,6 +34,8 @@ fn reads_and_never_writes(rt: HostRuntime) -> Result<(), Fail> {
         assert!(rt; disk.cut(0).is_err());
         assert!(rt; disk.sync().is_ok());
         assert!(rt; matches!(disk.len(), Ok(7)));
+        let whole = disk.into_disk();
+        assert_eq!(rt; whole.bytes().len(), 12);
     }
     Ok(())
 }

@@ -7,10 +7,11 @@ pub loop-range-preserved : goal.loop-range-preserved
 loop-range-preserved c =
     let at = c.loop-range-test.true in
     let here = total_at c.args.ranges.now c.loop-range.range-index at in
-    let inv = c.loop-range.invariant in
-    (λ rest. inv.0 (all_at IsShort c.args.ranges.now c.loop-range.range-index at (omega arith) rest),
-     λ rest. inv.1 (all_at (IsInDisk c.args.size) c.args.ranges.now c.loop-range.range-index at (omega arith) rest),
-     omega (arith, here, inv.2))
+    let inv = c.loop-range.invariant in (
+      λ rest. inv.0 (all_at IsShort c.args.ranges.now c.loop-range.range-index at (omega arith) rest),
+      λ rest. inv.1 (all_at (IsInDisk c.args.size) c.args.ranges.now c.loop-range.range-index at (omega arith) rest),
+      omega (arith, here, inv.2),
+    )
 
 pub returns : goal.returns
 returns c =

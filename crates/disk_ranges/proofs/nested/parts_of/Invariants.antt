@@ -1,4 +1,4 @@
-use Rattle.disk_ranges.proofs.Within.{HasParts}
+use Rattle.disk_ranges.proofs.Parts.{HasParts}
 use Rattle.disk_ranges.proofs.nested.parts_of.Given as goal
 
 abbrev pub invariant-loop-range : goal.invariant-loop-range

@@ -1,6 +1,6 @@
 -- Ranges of ranges of a disk are ranges of the disk: views need not be put on one another.
 use Rattle.std.proofs.Common.{◌≡◌, ℕ, ◌+◌, ◌-◌, ◌<◌, ◌≤◌, List, [], ◌∷◌, ◌++◌, length, take, drop, min, refl, sym, ap, subst, ◌∙◌, arith}
-use Rattle.std.proofs.lemmas.List.{append_assoc, append-nil, at_drop_all, take_more, take_all}
+use Rattle.std.proofs.lemmas.List.{append_assoc, append-nil, at_drop_all, take_more}
 use Rattle.std.specs.List.{AllByRecursion}
 use lib.Seq.{take-nil, drop-nil}
 use Rattle.fork_disk.specs.Disk.{bytes_at}
@@ -43,8 +43,8 @@ pub part_past : (outer : List Range) (inner : Range) (parts : List Range) (i ski
     → HasParts outer inner parts i skipped left → HasParts outer inner parts (i + 1) (skipped - (range_at outer i).length) left
 part_past outer inner parts i skipped left at past so_far = record {
   bytes = λ disk all. (
-    ap (λ (xs : List ℕ). bytes_of parts disk ++ xs) (skips_at outer i disk skipped left at (each_at (IsInDisk (length disk)) outer i at all) past)
-    ∙ so_far.bytes disk all);
+      ap (λ (xs : List ℕ). bytes_of parts disk ++ xs) (skips_at outer i disk skipped left at (each_at (IsInDisk (length disk)) outer i at all) past)
+      ∙ so_far.bytes disk all);
   inside = so_far.inside;
   short = so_far.short;
   few = so_far.few;
@@ -64,15 +64,15 @@ part_here outer inner parts i skipped left count at less is short so_far =
     let were = so_far.few in
     record {
       bytes = λ disk all. (
-        let rest = bytes_at (left - count) 0 (bytes_of (drop (i + 1) outer) disk) in
-        let here = bytes_at count (first.at + skipped) disk in
-        ap (λ (xs : List ℕ). xs ++ rest) (bytes_of-append parts (part ∷ []) disk ∙ ap (λ (xs : List ℕ). bytes_of parts disk ++ xs) (append-nil here))
-        ∙ append_assoc (bytes_of parts disk) here rest
-        ∙ ap (λ (xs : List ℕ). bytes_of parts disk ++ xs) (reads_at outer i disk skipped left count at (each_at (IsInDisk (length disk)) outer i at all) less is)
-        ∙ so_far.bytes disk all);
+          let rest = bytes_at (left - count) 0 (bytes_of (drop (i + 1) outer) disk) in
+          let here = bytes_at count (first.at + skipped) disk in
+          ap (λ (xs : List ℕ). xs ++ rest) (bytes_of-append parts (part ∷ []) disk ∙ ap (λ (xs : List ℕ). bytes_of parts disk ++ xs) (append-nil here))
+          ∙ append_assoc (bytes_of parts disk) here rest
+          ∙ ap (λ (xs : List ℕ). bytes_of parts disk ++ xs) (reads_at outer i disk skipped left count at (each_at (IsInDisk (length disk)) outer i at all) less is)
+          ∙ so_far.bytes disk all);
       inside = λ size all. (
-        let within = each_at (IsInDisk size) outer i at all in
-        all_append (IsInDisk size) parts (part ∷ []) (so_far.inside size all) (omega (arith, within, is, less), tt));
+          let within = each_at (IsInDisk size) outer i at all in
+          all_append (IsInDisk size) parts (part ∷ []) (so_far.inside size all) (omega (arith, within, is, less), tt));
       short = all_append IsShort parts (part ∷ []) so_far.short (omega (arith, ends, is, less), tt);
       few = omega (arith, sum, were, is);
     }
@@ -85,8 +85,8 @@ parts_are outer inner parts i skipped left past all_parts =
     let were = all_parts.few in
     record {
       bytes = λ disk all. (
-        let none = at_drop_all (λ rs. bytes_at left skipped (bytes_of rs disk)) outer i past ∙ ap (take left) (drop-nil skipped) ∙ take-nil left in
-        sym (append-nil (bytes_of parts disk)) ∙ sym (ap (λ (xs : List ℕ). bytes_of parts disk ++ xs) none) ∙ all_parts.bytes disk all ∙ sym (append-nil _));
+          let none = at_drop_all (λ rs. bytes_at left skipped (bytes_of rs disk)) outer i past ∙ ap (take left) (drop-nil skipped) ∙ take-nil left in
+          sym (append-nil (bytes_of parts disk)) ∙ sym (ap (λ (xs : List ℕ). bytes_of parts disk ++ xs) none) ∙ all_parts.bytes disk all ∙ sym (append-nil _));
       inside = all_parts.inside;
       short = all_parts.short;
       few = omega (arith, were);
@@ -107,10 +107,10 @@ both_ranges outer inner ranges next parts before here =
     let are = here.few in
     record {
       bytes = λ disk all. (
-        bytes_of-append ranges parts disk
-        ∙ ap (λ (xs : List ℕ). xs ++ bytes_of parts disk) (before.bytes disk all)
-        ∙ ap (λ (xs : List ℕ). bytes_of inner (bytes_of outer disk) ++ xs) (here.bytes disk all)
-        ∙ sym (bytes_of-append inner (next ∷ []) (bytes_of outer disk)));
+          bytes_of-append ranges parts disk
+          ∙ ap (λ (xs : List ℕ). xs ++ bytes_of parts disk) (before.bytes disk all)
+          ∙ ap (λ (xs : List ℕ). bytes_of inner (bytes_of outer disk) ++ xs) (here.bytes disk all)
+          ∙ sym (bytes_of-append inner (next ∷ []) (bytes_of outer disk)));
       inside = λ size all. all_append (IsInDisk size) ranges parts (before.inside size all) (here.inside size all);
       short = all_append IsShort ranges parts before.short here.short;
       few = omega (arith, sum, wanted, were, are);
@@ -120,6 +120,3 @@ pub more_ranges : (outer inner ranges : List Range) (i : ℕ) (parts : List Rang
     → HasRanges outer (take (i + 1) inner) (ranges ++ parts)
 more_ranges outer inner ranges i parts at before here =
     subst (λ (xs : List Range). HasRanges outer xs (ranges ++ parts)) (sym (take_more inner i (record { at = 0; length = 0 }) at)) (both_ranges outer (take i inner) ranges (range_at inner i) parts before here)
-
-pub all_ranges : (outer inner ranges : List Range) (i : ℕ) → length inner ≤ i → HasRanges outer (take i inner) ranges → HasRanges outer inner ranges
-all_ranges outer inner ranges i past has = subst (λ (xs : List Range). HasRanges outer xs ranges) (take_all i inner past) has
