@@ -1,11 +1,10 @@
--- How many bytes ranges have, and that a disk that is honest later has them still.
+-- How many bytes ranges have.
 use Rattle.std.proofs.Common.{◌≡◌, ℕ, ◌+◌, ◌<◌, ◌≤◌, List, [], ◌∷◌, length, drop, sym, subst, refl, ◌∙◌, arith}
 use Rattle.std.proofs.lemmas.List.{length-append, at_drop_more, at_drop_all}
 use Rattle.std.specs.List.{AllByRecursion}
 use Rattle.fork_disk.specs.Disk.{bytes_at}
-use Rattle.fork_disk.specs.OnDisk.{KeepsDisk}
 use Rattle.disk_ranges.specs.declared.read.Range.{Range}
-use Rattle.disk_ranges.specs.Ranges.{bytes_of, total, IsInDisk, LieOnDisk}
+use Rattle.disk_ranges.specs.Ranges.{bytes_of, total, IsInDisk}
 use Rattle.disk_ranges.proofs.Steps.{range_at, range_length}
 
 -- the ranges from an index on have as many bytes as the one there and the others
@@ -26,17 +25,6 @@ length_is (range ∷ ranges) disk all =
     let first = range_length range disk all.0 in
     let rest = length_is ranges disk all.1 in
     length-append (bytes_at range.length range.at disk) (bytes_of ranges disk) ∙ omega (arith, first, rest)
-
--- where a disk that is honest now was so before, with the same bytes, the ranges lie on it as they did
-pub lie_after : {D : Type 0} (seen : D → List ℕ) (is_honest is_stable : D → Type 0) (old new : D) (ranges : List Range) (size : ℕ)
-    → LieOnDisk seen is_honest old ranges size → (is_honest new → KeepsDisk seen is_honest is_stable old new) → LieOnDisk seen is_honest new ranges size
-lie_after seen is_honest is_stable old new ranges size lie keeps = record {
-  short = lie.short;
-  whole = lie.whole;
-  inside = λ honest. (
-      let kept = keeps honest in
-      subst (λ (bytes : List ℕ). AllByRecursion (IsInDisk (length bytes)) ranges) (sym kept.same) (lie.inside kept.honest));
-}
 
 -- what the range at an index and those after it have, those from there on have
 pub all_at : (P : Range → Type 0) (ranges : List Range) (i : ℕ) → i < length ranges → P (range_at ranges i) → AllByRecursion P (drop (i + 1) ranges) → AllByRecursion P (drop i ranges)
