@@ -243,12 +243,18 @@ static void without_zone(void) {
     ended(&zone);
 }
 
-/* Of more handles than are noted the first 1024 are shown: 2000 of 20 bytes each are purged for the whole zone. */
+/* Of more handles than are noted the first 1024 are shown: 2000 of 20 bytes each are purged for the whole zone, in the order of their
+ * blocks. */
 static void many(void) {
     MhZone zone = sized(65536, 65536, 24);
     static uint32_t handles[2000], found[2000];
-    uint32_t count = 0, growth = 0;
-    for (int n = 0; n < 2000; n++) handles[n] = new_handle(&zone, 12, true);
+    uint32_t count = 0, growth = 0, at = 0, known = 0;
+    MhBlock block = {0};
+    for (int n = 0; n < 2000; n++) new_handle(&zone, 12, true);
+    IS(mh_first_block(&zone, &at), MH_NO_ERR);
+    for (; known < 2000 && mh_block(&zone, at, &block) == MH_NO_ERR; at += block.size)
+        if (block.kind == MH_REL) handles[known++] = block.owner;
+    IS(known, 2000);
     IS(mh_max_mem(&zone, &count, &growth), MH_NO_ERR);
     memset(found, 0, sizeof found);
     IS(mh_purged(&zone, found, 2000, &count), MH_NO_ERR);
@@ -328,6 +334,7 @@ static void random_calls(uint32_t mode, uint32_t limit, uint32_t calls) {
         if (code == MH_NO_ERR && makes) {
             uint32_t place = below(KEPT);
             if (kept[place] && mh_dispose_handle(&held, kept[place]) == MH_NO_ERR) IS(mh_dispose_handle(&plain, kept[place]), MH_NO_ERR);
+            else if (kept[place] && mh_dispose_ptr(&held, kept[place]) == MH_NO_ERR) IS(mh_dispose_ptr(&plain, kept[place]), MH_NO_ERR);
             kept[place] = given[0];
         }
     }
