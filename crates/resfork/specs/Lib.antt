@@ -3,13 +3,10 @@ pub mod Problems
 pub mod Reading
 pub mod Acts
 pub mod Saving
-pub mod Changing
 pub mod Showing
 pub mod Reporting
 pub mod Salvaging
 pub mod Using
-pub mod Converting
 pub mod Working
-pub mod Packing
 pub mod Running
 pub mod Order

@@ -1,5 +1,5 @@
 -- What the program does, by what is asked of it.
-use Rattle.std.specs.Prelude.{◌≡◌, ◌⊎◌, ℕ, Bool, true, false, is_none, List, ◌∷◌, Some, None, Result, Ok, Err, option_map}
+use Rattle.std.specs.Prelude.{◌≡◌, ◌⊎◌, ℕ, Bool, true, false, is_none, List, ◌∷◌, Result, ⊤}
 use Rattle.fork_words.specs.declared.asked.Asked.{Asked}
 use Rattle.fork_words.specs.declared.asked.Asked.TheVariants as asked
 use Rattle.fork_words.specs.declared.asked.Salvage.{Salvage}
@@ -10,34 +10,25 @@ use Rattle.fork_words.specs.declared.work.Work.{Work}
 use Rattle.fork_words.specs.declared.work.Work.TheVariants as work
 use Rattle.resfork.specs.declared.acts.Act.TheVariants as act
 use Rattle.resfork.specs.declared.message.Problem.{Problem}
-use Rattle.resfork.specs.Acts.{Log, Prints}
-use Rattle.resfork.specs.Converting.{Converts}
-use Rattle.resfork.specs.Packing.{PacksLike, Rezzes}
+use Rattle.resfork.specs.Acts.{Log}
 use Rattle.resfork.specs.Reporting.{ReportsAll}
 use Rattle.resfork.specs.Salvaging.{SalvagesFile}
 use Rattle.resfork.specs.Showing.{Files, HasStatus, ShowsAll}
 use Rattle.resfork.specs.Using.{Derezzes, UnpacksTable, UsesFile, Views}
-use Rattle.resfork.specs.Working.{Compares, Copies, Puts, Removes, Sets}
+use Rattle.resfork.specs.Working.{Compares}
 
--- what a command did that changes files, or compares them
+-- what a command did that compares files, or shows resources as a text; of one that writes a file nothing more is said
 abbrev pub Works : Work → Result ℕ Problem → Log → Log → Type 0
-Works (work.Put asked) = Puts asked
-Works (work.Remove asked) = Removes asked
-Works (work.Set asked) = Sets asked
-Works (work.Copy asked) = Copies asked
-Works (work.Compare asked) = Compares asked
-Works (work.Derez asked) = UsesFile (Derezzes asked.kinds.items) asked.file.now
-Works (work.Rez asked) = Rezzes asked
-Works (work.Pack asked) = PacksLike (option_map (λ path. path.now) asked.like) asked
-Works (work.Convert asked) = Converts asked
+Works (work.Compare asked) result old new = Compares asked result old new
+Works (work.Derez asked) result old new = UsesFile (Derezzes asked.kinds.items) asked.file.now result old new
+Works other result old new = ⊤
 
 -- some text was written, unless the host has no memory for it
 abbrev pub TellsText : ℕ → Log → Log → Type 0
 TellsText status old new = ((status ≡ 4) × (new ≡ old)) ⊎ ((text : List ℕ) × (((status ≡ 0) × (new ≡ act.Printed text true ∷ old)) ⊎ ((status ≡ 4) × (new ≡ act.Printed text false ∷ old))))
 
--- With what is asked for, the program did this, and ended with this status: which files were opened, read, written and
--- made, by which paths; the bytes that came from each and that went to each, and to the standard output; and nothing
--- else.
+-- With what is asked for, the program did this, and ended with this status: which files were opened, read and made, by
+-- which paths; the bytes that came from each and that went to each, and to the standard output; and nothing else.
 abbrev pub ResforkEnds : Files → Asked → ℕ → Log → Log → Type 0
 ResforkEnds files (asked.Show showing) = ShowsAll files showing
 ResforkEnds files (asked.Report reporting) = ReportsAll reporting

@@ -1,17 +1,14 @@
 -- How files are written: prepared beside their paths, and then put there.
-use Rattle.std.specs.Prelude.{◌≡◌, ◌≢◌, ◌⊎◌, ℕ, Bool, List, [], ◌∷◌, Option, None, Some, Result, Ok, Err, IsErrAnd, codes, is_ok, string_bytes, ⊤}
+use Rattle.std.specs.Prelude.{◌≡◌, ◌≢◌, ◌⊎◌, ℕ, List, [], ◌∷◌, Option, None, Some, Result, Ok, Err, IsErrAnd, codes, string_bytes, ⊤}
 use Rattle.file_replace.specs.declared.calls.HeldCall.{HeldCall}
 use Rattle.file_replace.specs.declared.destination.Destination.{Destination}
-use Rattle.file_replace.specs.declared.held.Held.{Held}
-use Rattle.file_replace.specs.declared.prepared.NotBoth.{NotBoth}
-use Rattle.file_replace.specs.declared.prepared.NotBoth.TheVariants.{First, Second}
 use Rattle.file_replace.specs.declared.prepared.Outcome.{Outcome}
 use Rattle.file_replace.specs.declared.prepared.Prepared.{Prepared}
 use Rattle.file_replace.specs.declared.told.NotReplaced.{NotReplaced}
 use Rattle.file_replace.specs.declared.world.UnknownFolder.{UnknownFolder}
 use Rattle.file_replace.specs.Calls.{HeldAt}
-use Rattle.file_replace.specs.Held.{PreparesAt, PreparesHeld, PutsPrepared, PutsTwo}
-use Rattle.file_replace.specs.Opening.{Asks, OpensAs, OpensHeld}
+use Rattle.file_replace.specs.Held.{PreparesAt, PutsPrepared}
+use Rattle.file_replace.specs.Opening.{Asks, OpensAs}
 use Rattle.resfork.specs.declared.acts.Act.TheVariants as act
 use Rattle.resfork.specs.declared.message.Problem.{Problem}
 use Rattle.resfork.specs.declared.message.Problem.TheVariants as problem
@@ -67,47 +64,3 @@ PutsReady (ready.File file) result old new = PutsFile file result old new
 -- bytes were written to the standard output, which "-" is, or as the file of this path, or why not
 abbrev pub SavesTo : {T : Type 0} → List ℕ → List ℕ → Result T Problem → Log → Log → Type 0
 SavesTo path bytes = Then (MakesReady path bytes) PutsReady
-
--- two files were put, as `PutsTwo` says, or why not
-abbrev pub NotesBoth : Prepared UnknownFolder → Prepared UnknownFolder → Result (Outcome × Outcome) NotBoth → Log → Log → Type 0
-NotesBoth first second result old new = (calls : List HeldCall) × PutsTwo unknown unknown first second result [] calls × (new ≡ act.Saved calls ∷ old)
-
--- the one of two files that wasn't put, and why
-abbrev pub IsNotBoth : List ℕ → List ℕ → NotBoth → Problem → Type 0
-IsNotBoth first second (First refusal left) (problem.Output name error) = (string_bytes name ≡ first) × (error ≡ refusal)
-IsNotBoth first second (Second refusal) (problem.Output name error) = (string_bytes name ≡ second) × (error ≡ refusal)
-IsNotBoth first second why told = told ≡ problem.HostFull
-
-abbrev pub PutsFiles : {T : Type 0} → ReadyFile → ReadyFile → Result T Problem → Log → Log → Type 0
-PutsFiles first second (Ok done) old new = (outcomes : Outcome × Outcome) × NotesBoth first.prepared second.prepared (Ok outcomes) old new
-PutsFiles first second (Err told) old new = (why : NotBoth) × IsNotBoth first.path.now second.path.now why told × NotesBoth first.prepared second.prepared (Err why) old new
-
--- two that are ready were written: two files as such, and anything else in turn, the second only once the first was
--- written
-abbrev pub PutsBoth : {T : Type 0} → Ready → Ready → Result T Problem → Log → Log → Type 0
-PutsBoth (ready.File first) (ready.File second) result old new = PutsFiles first second result old new
-PutsBoth first second result old new = Then {T = ⊤} (PutsReady first) (λ _. PutsReady second) result old new
-
--- both were prepared, the first one first, before either was written
-abbrev pub SavesBoth : {T : Type 0} → List ℕ → List ℕ → List ℕ → List ℕ → (Ready → Ready → Result T Problem → Log → Log → Type 0) → Result T Problem → Log → Log → Type 0
-SavesBoth path bytes second others Puts = Then (MakesReady path bytes) (λ one. Then (MakesReady second others) (λ other. Puts one other))
-
--- a regular file was opened to be replaced, and locked, or why not
-abbrev pub NotesHeld : List ℕ → Result Held Problem → Log → Log → Type 0
-NotesHeld path (Ok held) old new = (calls : List HeldCall) × Asks (OpensHeld path (Ok held)) [] calls × (new ≡ act.Saved calls ∷ old)
-NotesHeld path (Err (problem.Replace refusal)) old new = (calls : List HeldCall) × Asks (OpensHeld path (Err refusal)) [] calls × (new ≡ act.Saved calls ∷ old)
-NotesHeld path (Err other) old new = ⊥
-
--- a file that is held and had the old bytes was to get the new ones, after a copy of the old ones at its name with a
--- tilde, where one is kept; or why it didn't
-abbrev pub RenewsFile : {T : Type 0} → Bool → Held → List ℕ → List ℕ → Result T NotReplaced → List HeldCall → List HeldCall → Type 0
-RenewsFile keeps held before after (Ok done) old new = (prepared : Prepared UnknownFolder) × (outcome : Outcome) × (mid : List HeldCall)
-    × PreparesHeld unknown unknown keeps held before after (Ok prepared) old mid × PutsPrepared unknown prepared (Ok outcome) mid new
-RenewsFile keeps held before after (Err refusal) old new = PreparesHeld {F = UnknownFolder} unknown unknown keeps held before after (Err refusal) old new
-    ⊎ ((prepared : Prepared UnknownFolder) × (mid : List HeldCall) × PreparesHeld unknown unknown keeps held before after (Ok prepared) old mid × PutsPrepared unknown prepared (Err refusal) mid new)
-
--- the same, by calls of its own
-abbrev pub Renews : {T : Type 0} → Bool → Held → List ℕ → List ℕ → Result T Problem → Log → Log → Type 0
-Renews keeps held before after (Ok done) old new = (calls : List HeldCall) × RenewsFile keeps held before after (Ok done) [] calls × (new ≡ act.Saved calls ∷ old)
-Renews {T} keeps held before after (Err (problem.Replace refusal)) old new = (calls : List HeldCall) × RenewsFile {T = T} keeps held before after (Err refusal) [] calls × (new ≡ act.Saved calls ∷ old)
-Renews keeps held before after (Err other) old new = ⊥

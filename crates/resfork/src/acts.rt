@@ -118,7 +118,8 @@ pub fn note_unpacked(acts: &mut Acts, calls: &FolderCalls)
 
 /// What a path leads to over links, if anything.
 pub fn look_at(host: &Host<'_>, path: &str, acts: &mut Acts) -> io::Result<Option<Found>>
-    ensures { acts.new.events ≡ act.Asked path.now (answer_of result) ∷ acts.old.events }
+    ensures asks { acts.new.events ≡ act.Asked path.now (answer_of result) ∷ acts.old.events }
+    ensures quiet { KeepsQuiet acts.old.events acts.new.events }
 {
     let found = found_over(host.rt, path, &mut HostCalls::new());
     note_asked(acts, path, &found);
@@ -127,7 +128,8 @@ pub fn look_at(host: &Host<'_>, path: &str, acts: &mut Acts) -> io::Result<Optio
 
 /// Writes bytes to the standard output.
 pub fn write_out(host: &Host<'_>, bytes: &[u8], acts: &mut Acts) -> io::Result<()>
-    ensures { acts.new.events ≡ act.Printed bytes.now (is_ok result) ∷ acts.old.events }
+    ensures prints { acts.new.events ≡ act.Printed bytes.now (is_ok result) ∷ acts.old.events }
+    ensures quiet { KeepsQuiet acts.old.events acts.new.events }
 {
     let done = host.output().write_all(bytes);
     note_printed(acts, bytes, &done);

@@ -1,8 +1,7 @@
 //! Files changed: read whole, changed, and written in their own place or in another.
 
-ghost use Rattle.std.specs.Prelude.{◌≡◌, IfErr, IfOk, IfSome, Ok, string_bytes, true};
+ghost use Rattle.std.specs.Prelude.{◌≡◌, IfErr, IfOk, IfSome, Ok, true};
 ghost use Rattle.resfork.specs.Acts.{KeepsQuiet};
-ghost use Rattle.resfork.specs.Changing.{Becomes, Changes, ChangesFile, ChangesHeld, ChangesInto, ChangesPlace, Creates, RenewsBy, Replaces, Says, SaysAfter, WritesAndSays, WritesOutput};
 ghost use Rattle.resfork.specs.Problems.{IsIdle, IsNotSaved, written_file};
 
 use crate::acts::Acts;
@@ -26,7 +25,6 @@ pub fn change(
     acts: &mut Acts,
 ) -> Result<u8, Problem>
     ensures done { IfOk result (λ status. status ≡ DONE) }
-    ensures changes { Changes target.now from.now edit.entry result acts.old.events acts.new.events }
     ensures dry { target.now.is_dry ≡ true → KeepsQuiet acts.old.events acts.new.events }
 {
     if target.is_dry || target.output.is_some() {
@@ -45,7 +43,6 @@ fn change_other(
     acts: &mut Acts,
 ) -> Result<u8, Problem>
     ensures done { IfOk result (λ status. status ≡ DONE) }
-    ensures changes { ChangesFile target.now from.now edit.entry result acts.old.events acts.new.events }
     ensures dry { target.now.is_dry ≡ true → KeepsQuiet acts.old.events acts.new.events }
 {
     let old = read(host, target.file, acts)?;
@@ -61,7 +58,6 @@ pub fn create(
     acts: &mut Acts,
 ) -> Result<u8, Problem>
     ensures done { IfOk result (λ status. status ≡ DONE) }
-    ensures creates { Creates target.now from.now edit.entry result acts.old.events acts.new.events }
     ensures dry { target.now.is_dry ≡ true → KeepsQuiet acts.old.events acts.new.events }
 {
     let target = Target {
@@ -80,7 +76,6 @@ fn change_in_place(
     acts: &mut Acts,
 ) -> Result<u8, Problem>
     ensures done { IfOk result (λ status. status ≡ DONE) }
-    ensures changes { ChangesPlace target.now from.now edit.entry result acts.old.events acts.new.events }
 {
     let held = open_held(host, target.file, acts)?;
     change_held(host, target, held, from, edit, acts)
@@ -96,7 +91,6 @@ fn change_held(
     acts: &mut Acts,
 ) -> Result<u8, Problem>
     ensures done { IfOk result (λ status. status ≡ DONE) }
-    ensures changes { ChangesHeld target.now held from.now edit.entry result acts.old.events acts.new.events }
 {
     let old = read_held(host, held.file(), acts)?;
     renew_by(host, target, held, &old, (from, edit), acts)
@@ -112,7 +106,6 @@ fn renew_by(
     acts: &mut Acts,
 ) -> Result<u8, Problem>
     ensures done { IfOk result (λ status. status ≡ DONE) }
-    ensures changes { RenewsBy target.now held old.now change.entry.0.now change.entry.1 result acts.old.events acts.new.events }
 {
     let (from, edit) = change;
     match changed_of(host, old, from, edit)? {
@@ -131,7 +124,6 @@ fn replace(
     acts: &mut Acts,
 ) -> Result<u8, Problem>
     ensures done { IfOk result (λ status. status ≡ DONE) }
-    ensures replaces { Replaces target.now held old.now changed.now result acts.old.events acts.new.events }
 {
     let renewal = Renewal {
         old,
@@ -149,7 +141,6 @@ fn changed_of(
     from: &[Row<'_>],
     edit: Edit<'_>,
 ) -> Result<Option<NewFile>, Problem>
-    ensures { Becomes old.now from.now edit.entry result }
 {
     let alloc = host.alloc();
     match changed(alloc, old, from, edit) {
@@ -168,7 +159,6 @@ fn change_into(
     acts: &mut Acts,
 ) -> Result<u8, Problem>
     ensures done { IfOk result (λ status. status ≡ DONE) }
-    ensures changes { ChangesInto target.now old.now from.now edit.entry result acts.old.events acts.new.events }
     ensures dry { target.now.is_dry ≡ true → KeepsQuiet acts.old.events acts.new.events }
 {
     match changed_of(host, old, from, edit)? {
@@ -188,7 +178,6 @@ fn write_changed(
     acts: &mut Acts,
 ) -> Result<u8, Problem>
     ensures done { IfOk result (λ status. status ≡ DONE) }
-    ensures writes { WritesAndSays target.now changed.now.file.items (string_bytes changed.now.told) result acts.old.events acts.new.events }
     ensures dry { target.now.is_dry ≡ true → KeepsQuiet acts.old.events acts.new.events }
 {
     write_output(host, target, &changed.file, acts)?;
@@ -210,8 +199,8 @@ pub fn write_output(
     acts: &mut Acts,
 ) -> Result<(), Problem>
     ensures idle { IsIdle target.now → (result ≡ Ok tt) × (acts.new.events ≡ acts.old.events) }
+    ensures dry { target.now.is_dry ≡ true → KeepsQuiet acts.old.events acts.new.events }
     ensures cause { IfErr result (λ why. IfSome target.now.output (λ path. IsNotSaved path.now why)) }
-    ensures writes { WritesOutput target.now bytes.now result acts.old.events acts.new.events }
 {
     match target.output {
         Some(output) if !target.is_dry => save_to(host, output, bytes, acts),
@@ -228,7 +217,6 @@ pub fn say(
 ) -> Result<u8, Problem>
     ensures done { IfOk result (λ status. status ≡ DONE) }
     ensures quiet { target.now.is_quiet ≡ true → (result ≡ Ok DONE) × (acts.new.events ≡ acts.old.events) }
-    ensures says { Says target.now (string_bytes text.now) result acts.old.events acts.new.events }
     ensures reads { KeepsQuiet acts.old.events acts.new.events }
 {
     if !target.is_quiet && (target.is_dry || target.output != Some(OUTPUT)) {
@@ -245,7 +233,6 @@ fn say_after(
     acts: &mut Acts,
 ) -> Result<u8, Problem>
     ensures done { IfOk result (λ status. status ≡ DONE) }
-    ensures says { SaysAfter target.now (string_bytes text.now) result acts.old.events acts.new.events }
 {
     match say(host, target, text, acts) {
         Ok(status) => Ok(status),

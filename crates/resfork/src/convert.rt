@@ -1,9 +1,7 @@
 //! A file is written in another container.
 
-ghost use Rattle.std.specs.Prelude.{◌≡◌, Err, IfErr, IfOk, Some, option_map, true};
-ghost use Rattle.mac_files.specs.Kinds.{kind_of};
+ghost use Rattle.std.specs.Prelude.{◌≡◌, Err, IfOk, Some, option_map, true};
 ghost use Rattle.resfork.specs.Acts.{KeepsQuiet};
-ghost use Rattle.resfork.specs.Converting.{Converts, ConvertsBytes, ConvertsFile, ConvertsIn, ConvertsWith, FindsData, Identified, IsChecked, IsNewName, IsRewritten, IsToldLost, Orders, OrdersIf, PutsIn, SaysSome, WritesBoth, WritesConverted, WritesUnlessDry, data_path, is_inside, is_sure, place_of};
 ghost use Rattle.resfork.specs.Problems.{written_file};
 
 use crate::acts::{Acts, note_identified};
@@ -40,7 +38,6 @@ enum Place {
 
 /// Where the data fork of bytes is.
 fn place_of(bytes: &[u8]) -> Place
-    ensures { result ≡ place_of (kind_of bytes.now) }
 {
     match kind_of(bytes) {
         FileKind::Container(Container::AppleDouble) => Place::Beside,
@@ -51,14 +48,12 @@ fn place_of(bytes: &[u8]) -> Place
 
 /// Whether the data fork of bytes is in the file itself.
 fn is_inside(bytes: &[u8]) -> bool
-    ensures { result ≡ is_inside (place_of (kind_of bytes.now)) }
 {
     matches!(place_of(bytes), Place::Inside)
 }
 
 /// The name of the new file: the one that is asked for, its own, or in MacBinary and BinHex that of the path.
 fn name_for(alloc: Global, asked: &Conversion<'_>, file: &MacFile) -> Result<Vec<u8>, AllocError>
-    ensures { IfOk result (λ name. IsNewName (option_map (λ name. name.items) asked.now.name) asked.now.kind file.now.name.now asked.now.target.file.now name.items) }
 {
     match (&asked.name, asked.kind) {
         (Some(name), _) => Vec::from_slice(alloc, name.as_slice()),
@@ -84,7 +79,6 @@ fn lost_words(alloc: Global, lost: &[Loss]) -> Result<String, AllocError> {
 
 /// Whether a file is known for sure by its bytes.
 fn is_sure(bytes: &[u8]) -> bool
-    ensures { result ≡ is_sure (kind_of bytes.now) }
 {
     match kind_of(bytes) {
         FileKind::Container(Container::MacBinary(Version::I)) => false,
@@ -94,7 +88,6 @@ fn is_sure(bytes: &[u8]) -> bool
 
 /// Checks that bytes in no container that is known for sure are a resource fork.
 fn check_fork(host: &Host<'_>, bytes: &[u8]) -> Result<(), Problem>
-    ensures { IsChecked bytes.now result }
 {
     if !is_sure(bytes) {
         let found = fork_found(host, bytes)?;
@@ -105,8 +98,6 @@ fn check_fork(host: &Host<'_>, bytes: &[u8]) -> Result<(), Problem>
 
 /// These bytes, unless the host has no memory.
 fn copied(host: &Host<'_>, bytes: &[u8]) -> Result<Vec<u8>, Problem>
-    ensures copied { IfOk result (λ copied. copied.items ≡ bytes.now) }
-    ensures full { IfErr result (λ told. told ≡ Problem.HostFull) }
 {
     match Vec::from_slice(host.alloc(), bytes) {
         Ok(copied) => Ok(copied),
@@ -123,7 +114,6 @@ fn data_for(
     acts: &mut Acts,
 ) -> Result<Vec<u8>, Problem>
     ensures quiet { KeepsQuiet acts.old.events acts.new.events }
-    ensures finds { FindsData asked.now bytes.now file.now result acts.old.events acts.new.events }
 {
     match (asked.data, holds_data(asked.kind), is_inside(bytes)) {
         (Some(path), true, false) if file.data_fork.is_empty() => read_other(host, path, acts),
@@ -137,7 +127,6 @@ fn data_for(
 /// a one can't be opened either.
 fn identity_of(host: &Host<'_>, path: &str, acts: &mut Acts) -> Option<Identity>
     ensures quiet { KeepsQuiet acts.old.events acts.new.events }
-    ensures identified { Identified path.now result acts.old.events acts.new.events }
 {
     if path == OUTPUT {
         return None;
@@ -160,7 +149,6 @@ fn order_for(
 ) -> Result<Order, Problem>
     ensures one_file { path.now ≡ written_file asked.now.target → result ≡ Err Problem.OneFile }
     ensures quiet { KeepsQuiet acts.old.events acts.new.events }
-    ensures orders { Orders asked.now path.now result acts.old.events acts.new.events }
 {
     let output = written_file(&asked.target);
     if path == output {
@@ -181,9 +169,8 @@ fn order_if(
     asked: &Conversion<'_>,
     acts: &mut Acts,
 ) -> Result<Order, Problem>
-    ensures one_file { data_path asked.now ≡ Some (written_file asked.now.target) → result ≡ Err Problem.OneFile }
+    ensures one_file { option_map (λ path. path.now) asked.now.data ≡ Some (written_file asked.now.target) → result ≡ Err Problem.OneFile }
     ensures quiet { KeepsQuiet acts.old.events acts.new.events }
-    ensures orders { OrdersIf (data_path asked.now) asked.now result acts.old.events acts.new.events }
 {
     match asked.data {
         Some(path) => order_for(host, asked, path, acts),
@@ -201,7 +188,6 @@ fn write_both<'a>(
     data: &'a [u8],
     acts: &mut Acts,
 ) -> Result<(), Problem>
-    ensures { WritesBoth asked.now order new.entry.now data.entry.now result acts.old.events acts.new.events }
 {
     let output = written_file(&asked.target);
     match asked.data {
@@ -222,7 +208,6 @@ fn put_in(
     data: Ready<'_>,
     acts: &mut Acts,
 ) -> Result<(), Problem>
-    ensures { PutsIn order output.entry data.entry result acts.old.events acts.new.events }
 {
     match order {
         Order::OutputFirst => put_two(host, output, data, acts),
@@ -240,7 +225,6 @@ fn write_converted(
     acts: &mut Acts,
 ) -> Result<(), Problem>
     ensures dry { asked.now.target.is_dry ≡ true → KeepsQuiet acts.old.events acts.new.events }
-    ensures writes { WritesUnlessDry asked.now.target.is_dry asked.now order new.now data.now result acts.old.events acts.new.events }
 {
     if asked.target.is_dry {
         return Ok(());
@@ -250,7 +234,6 @@ fn write_converted(
 
 /// The file in its new container.
 fn in_container(alloc: Global, transfer: &Transfer<'_>) -> Result<Rewritten, Problem>
-    ensures { IsRewritten transfer.now result }
 {
     match converted(alloc, transfer) {
         Ok(new) => Ok(new),
@@ -262,7 +245,6 @@ fn in_container(alloc: Global, transfer: &Transfer<'_>) -> Result<Rewritten, Pro
 
 /// That a file isn't written in another container since it would lose this.
 fn would_lose(alloc: Global, lost: &[Loss]) -> Problem
-    ensures { IsToldLost result }
 {
     match lost_words(alloc, lost) {
         Ok(words) => Problem::Lost(words),
@@ -277,9 +259,8 @@ pub fn convert(
     acts: &mut Acts,
 ) -> Result<u8, Problem>
     ensures done { IfOk result (λ status. status ≡ DONE) }
-    ensures one_file { data_path asked.now ≡ Some (written_file asked.now.target) → result ≡ Err Problem.OneFile }
+    ensures one_file { option_map (λ path. path.now) asked.now.data ≡ Some (written_file asked.now.target) → result ≡ Err Problem.OneFile }
     ensures dry { asked.now.target.is_dry ≡ true → KeepsQuiet acts.old.events acts.new.events }
-    ensures converts { Converts asked.now result acts.old.events acts.new.events }
 {
     let order = order_if(host, asked, acts)?;
     convert_in(host, asked, order, acts)
@@ -294,7 +275,6 @@ fn convert_in(
 ) -> Result<u8, Problem>
     ensures done { IfOk result (λ status. status ≡ DONE) }
     ensures dry { asked.now.target.is_dry ≡ true → KeepsQuiet acts.old.events acts.new.events }
-    ensures converts { ConvertsIn asked.now order result acts.old.events acts.new.events }
 {
     let bytes = read(host, asked.target.file, acts)?;
     convert_bytes(host, asked, order, &bytes, acts)
@@ -310,7 +290,6 @@ fn convert_bytes(
 ) -> Result<u8, Problem>
     ensures done { IfOk result (λ status. status ≡ DONE) }
     ensures dry { asked.now.target.is_dry ≡ true → KeepsQuiet acts.old.events acts.new.events }
-    ensures converts { ConvertsBytes asked.now order bytes.now result acts.old.events acts.new.events }
 {
     check_fork(host, bytes)?;
     match OldFile::open(host.alloc(), bytes) {
@@ -330,7 +309,6 @@ fn convert_file(
 ) -> Result<u8, Problem>
     ensures done { IfOk result (λ status. status ≡ DONE) }
     ensures dry { asked.now.target.is_dry ≡ true → KeepsQuiet acts.old.events acts.new.events }
-    ensures converts { ConvertsFile asked.now order bytes.now file.entry result acts.old.events acts.new.events }
 {
     let data = data_for(host, asked, bytes, &file, acts)?;
     convert_with(host, asked, order, (bytes, file, &data), acts)
@@ -346,7 +324,6 @@ fn convert_with(
 ) -> Result<u8, Problem>
     ensures done { IfOk result (λ status. status ≡ DONE) }
     ensures dry { asked.now.target.is_dry ≡ true → KeepsQuiet acts.old.events acts.new.events }
-    ensures converts { ConvertsWith asked.now order found.entry.0.now found.entry.1 found.entry.2.now result acts.old.events acts.new.events }
 {
     let (bytes, file, data) = found;
     let name = name_for(host.alloc(), asked, &file)?;
@@ -374,7 +351,6 @@ fn write_and_say(
 ) -> Result<u8, Problem>
     ensures done { IfOk result (λ status. status ≡ DONE) }
     ensures dry { asked.now.target.is_dry ≡ true → KeepsQuiet acts.old.events acts.new.events }
-    ensures writes { WritesConverted asked.now order new.now.file.items data.now result acts.old.events acts.new.events }
 {
     write_converted(host, asked, order, &new.file, data, acts)?;
     say_converted(host, asked, new, acts)
@@ -389,7 +365,6 @@ fn say_converted(
 ) -> Result<u8, Problem>
     ensures done { IfOk result (λ status. status ≡ DONE) }
     ensures quiet { KeepsQuiet acts.old.events acts.new.events }
-    ensures says { SaysSome asked.now result acts.old.events acts.new.events }
 {
     let output = FileName(written_file(&asked.target));
     if !new.lost.is_empty() {

@@ -1,13 +1,9 @@
 //! Resources as a text, and the fork of a text; and the fork of a folder to which resources were unpacked.
 
-ghost use Rattle.std.specs.Prelude.{◌≡◌, ◌∷◌, [], Ok, Some, IfErr, IfOk, true};
-ghost use Rattle.std.specs.Option.{option_map_or};
+ghost use Rattle.std.specs.Prelude.{◌≡◌, ◌∷◌, IfOk, true};
 ghost use Rattle.resfork.specs.Acts.{KeepsQuiet, bytes_read};
-ghost use Rattle.resfork.specs.Packing.{Advised, Checks, ChecksUnless, Delivers, IsFree, IsToldApart, PacksFolder, PutsRows, KeepsReading, Rezzes, SaysText, WritesAndTells, WritesNew, WritesTable, advised, is_container};
-ghost use Rattle.resfork.specs.Problems.{written_file};
 ghost use Rattle.resfork.specs.Running.{is_dry_place};
 ghost use Rattle.resfork.specs.Using.{Derezzes, UsesFile};
-ghost use Rattle.resfork.specs.Working.{CopiesRows, problem_of};
 ghost use Rattle.resfork.specs.declared.acts.Act.TheVariants as act;
 
 use crate::acts::{Acts, look_at, note_front, print};
@@ -95,7 +91,6 @@ pub fn rez_file<'a>(
 ) -> Result<u8, Failed<'a>>
     ensures done { IfOk result (λ status. status ≡ DONE) }
     ensures dry { is_dry_place asked.entry.place ≡ true → KeepsQuiet acts.old.events acts.new.events }
-    ensures rezzes { Rezzes asked.entry (problem_of result) acts.old.events acts.new.events }
 {
     let alloc = host.alloc();
     let source = asked.text;
@@ -123,7 +118,6 @@ fn deliver<'a>(
 ) -> Result<u8, Failed<'a>>
     ensures done { IfOk result (λ status. status ≡ DONE) }
     ensures dry { is_dry_place place.entry ≡ true → KeepsQuiet acts.old.events acts.new.events }
-    ensures delivers { Delivers place.entry (option_map_or (λ like. like.bytes.now) like.entry []) table.now (problem_of result) acts.old.events acts.new.events }
 {
     match place {
         Place::New { target, is_forced } => {
@@ -156,7 +150,6 @@ fn put_rows<'a>(
 ) -> Result<u8, Failed<'a>>
     ensures done { IfOk result (λ status. status ≡ DONE) }
     ensures dry { ends.entry.1.is_dry ≡ true → KeepsQuiet acts.old.events acts.new.events }
-    ensures puts { PutsRows ends.entry.1 on_collision rows.now (problem_of result) acts.old.events acts.new.events }
 {
     let (source, target) = ends;
     if rows.is_empty() {
@@ -186,7 +179,6 @@ fn put_rows<'a>(
 
 /// What is in the way, with what can be done where a resource is there already.
 fn with_advice(failed: Failed<'_>) -> Failed<'_>
-    ensures { result.problem ≡ advised failed.entry.problem }
 {
     match failed {
         Failed {
@@ -202,7 +194,6 @@ fn with_advice(failed: Failed<'_>) -> Failed<'_>
 
 /// Whether bytes are those of a file that has more than a resource fork.
 fn is_container(bytes: &[u8]) -> bool
-    ensures { result ≡ is_container bytes.now }
 {
     !kind_of(bytes).is_alone()
 }
@@ -217,7 +208,6 @@ fn check_free(
     acts: &mut Acts,
 ) -> Result<(), Problem>
     ensures quiet { KeepsQuiet acts.old.events acts.new.events }
-    ensures checks { Checks name.now table.now new.now result acts.old.events acts.new.events }
 {
     if name == OUTPUT {
         return Ok(());
@@ -239,7 +229,6 @@ fn check_bytes(
     table: &Table<'_>,
     new: &[u8],
 ) -> Result<(), Problem>
-    ensures { IsFree bytes.now new.now table.now result }
 {
     let alloc = host.alloc();
     if is_container(bytes) && !keeps_others(alloc, bytes, table, new)? {
@@ -263,7 +252,6 @@ fn check_unless(
     acts: &mut Acts,
 ) -> Result<(), Problem>
     ensures quiet { KeepsQuiet acts.old.events acts.new.events }
-    ensures checks { ChecksUnless is_forced name.now table.now new.now result acts.old.events acts.new.events }
 {
     if is_forced {
         return Ok(());
@@ -287,7 +275,6 @@ fn apart<'r, 'a>(alloc: Global, rows: &'r [Row<'a>]) -> Result<Option<&'r Row<'a
 
 /// Refuses rows of which some of one type are apart: a fork can't say so.
 fn check_together(alloc: Global, rows: &[Row<'_>]) -> Result<(), Problem>
-    ensures { IfErr result IsToldApart }
 {
     let Some(row) = apart(alloc, rows)? else {
         return Ok(());
@@ -310,7 +297,6 @@ fn write_table(
 ) -> Result<u8, Problem>
     ensures done { IfOk result (λ status. status ≡ DONE) }
     ensures dry { target.now.is_dry ≡ true → KeepsQuiet acts.old.events acts.new.events }
-    ensures writes { WritesTable target.now is_forced like.now table.now result acts.old.events acts.new.events }
 {
     let alloc = host.alloc();
     check_together(alloc, table.rows.as_slice())?;
@@ -331,7 +317,6 @@ fn write_new(
 ) -> Result<u8, Problem>
     ensures done { IfOk result (λ status. status ≡ DONE) }
     ensures dry { target.now.is_dry ≡ true → KeepsQuiet acts.old.events acts.new.events }
-    ensures writes { WritesNew target.now is_forced table.now file.now result acts.old.events acts.new.events }
 {
     check_unless(host, is_forced, written_file(target), table, file, acts)?;
     let count = table.rows.as_slice().len();
@@ -348,7 +333,6 @@ fn write_and_tell(
 ) -> Result<u8, Problem>
     ensures done { IfOk result (λ status. status ≡ DONE) }
     ensures dry { target.now.is_dry ≡ true → KeepsQuiet acts.old.events acts.new.events }
-    ensures writes { WritesAndTells target.now file.now result acts.old.events acts.new.events }
 {
     write_output(host, target, file, acts)?;
     let length = file.len();
@@ -378,7 +362,8 @@ fn read_front(
     most: u64,
     acts: &mut Acts,
 ) -> Result<Vec<u8>, NotRead>
-    ensures { acts.new.events ≡ act.ReadFront path.now most (bytes_read result) ∷ acts.old.events }
+    ensures notes { acts.new.events ≡ act.ReadFront path.now most (bytes_read result) ∷ acts.old.events }
+    ensures quiet { KeepsQuiet acts.old.events acts.new.events }
 {
     let read = read_beginning(host, path, most);
     note_front(acts, path, most, &read);
@@ -396,7 +381,6 @@ fn add_file(
     acts: &mut Acts,
 ) -> Result<usize, Problem>
     ensures quiet { KeepsQuiet acts.old.events acts.new.events }
-    ensures reads { KeepsReading folder.now acts.old.events acts.new.events }
 {
     let alloc = host.alloc();
     let path = format!(in alloc; "{folder}/{file}")?;
@@ -420,7 +404,6 @@ fn read_files(
     acts: &mut Acts,
 ) -> Result<Files, Problem>
     ensures quiet { KeepsQuiet acts.old.events acts.new.events }
-    ensures reads { KeepsReading folder.now acts.old.events acts.new.events }
 {
     let mut files = Files::new(host.alloc());
     let mut left = MOST_BYTES;
@@ -442,7 +425,6 @@ fn read_files(
 /// What `resources.json` says of a folder.
 fn packing_of(host: &Host<'_>, folder: &str, acts: &mut Acts) -> Result<Manifest, Problem>
     ensures quiet { KeepsQuiet acts.old.events acts.new.events }
-    ensures reads { KeepsReading folder.now acts.old.events acts.new.events }
 {
     let alloc = host.alloc();
     let path = format!(in alloc; "{folder}/{MANIFEST}")?;
@@ -463,7 +445,6 @@ fn packing_in(
     acts: &mut Acts,
 ) -> Result<(Manifest, Files), Problem>
     ensures quiet { KeepsQuiet acts.old.events acts.new.events }
-    ensures reads { KeepsReading folder.now acts.old.events acts.new.events }
 {
     let packing = packing_of(host, folder, acts)?;
     let packing = with_unlisted(host, folder, packing, adds, acts)?;
@@ -481,7 +462,6 @@ pub fn pack_folder<'a>(
 ) -> Result<u8, Failed<'a>>
     ensures done { IfOk result (λ status. status ≡ DONE) }
     ensures dry { is_dry_place asked.entry.place ≡ true → KeepsQuiet acts.old.events acts.new.events }
-    ensures packs { PacksFolder asked.entry (option_map_or (λ like. like.bytes.now) like.entry []) (problem_of result) acts.old.events acts.new.events }
 {
     let folder = asked.folder;
     let (packing, files) = of_file(folder, packing_in(host, folder, asked.adds, acts))?;

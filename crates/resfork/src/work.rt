@@ -1,13 +1,12 @@
 //! What the commands do that change files, and those that compare them.
 
-ghost use Rattle.std.specs.Prelude.{◌≡◌, ◌≢◌, ◌≤◌, IfErr, IfOk, Ok, Err, option_map, true};
+ghost use Rattle.std.specs.Prelude.{◌≡◌, ◌≤◌, IfErr, IfOk, Ok, Err, option_map, true};
 ghost use Rattle.resfork.specs.Acts.{KeepsQuiet};
-ghost use Rattle.resfork.specs.Packing.{PacksLike};
 ghost use Rattle.resfork.specs.Problems.{file_at_fault};
 ghost use Rattle.resfork.specs.Running.{Works, is_dry_place, writes_nothing};
 ghost use Rattle.resfork.specs.Showing.{HasStatus};
 ghost use Rattle.resfork.specs.Using.{UsesFile};
-ghost use Rattle.resfork.specs.Working.{CanCopy, Compares, ComparesTables, Copies, CopiesRows, IsNotCopied, Puts, PutsBytes, PutsInto, Removes, Sets, problem_of};
+ghost use Rattle.resfork.specs.Working.{Compares, ComparesTables, problem_of};
 
 use crate::acts::{Acts, look_at};
 use crate::asked_change::{Comparison, Copying, Packing, Putting, Removing, Setting, Target, Work};
@@ -83,7 +82,6 @@ fn done<'a>(host: &Host<'_>, work: Work<'a>, acts: &mut Acts) -> Result<u8, Fail
 fn put<'a>(host: &Host<'_>, asked: Putting<'a>, acts: &mut Acts) -> Result<u8, Failed<'a>>
     ensures done { IfOk result (λ status. status ≡ DONE) }
     ensures dry { asked.entry.target.is_dry ≡ true → KeepsQuiet acts.old.events acts.new.events }
-    ensures puts { Puts asked.entry (problem_of result) acts.old.events acts.new.events }
 {
     let input = asked.input.unwrap_or(INPUT);
     let bytes = of_file(input, read(host, input, acts))?;
@@ -99,7 +97,6 @@ fn put_bytes(
 ) -> Result<u8, Problem>
     ensures done { IfOk result (λ status. status ≡ DONE) }
     ensures dry { asked.entry.target.is_dry ≡ true → KeepsQuiet acts.old.events acts.new.events }
-    ensures puts { PutsBytes asked.entry bytes.now result acts.old.events acts.new.events }
 {
     let edit = Edit::Put {
         change: asked.change,
@@ -113,7 +110,6 @@ fn put_bytes(
 fn remove<'a>(host: &Host<'_>, asked: &Removing<'a>, acts: &mut Acts) -> Result<u8, Failed<'a>>
     ensures done { IfOk result (λ status. status ≡ DONE) }
     ensures dry { asked.now.target.is_dry ≡ true → KeepsQuiet acts.old.events acts.new.events }
-    ensures removes { Removes asked.now (problem_of result) acts.old.events acts.new.events }
 {
     let edit = Edit::Remove(asked.whats.as_slice());
     of_file(asked.target.file, change(host, &asked.target, &[], edit, acts))
@@ -123,7 +119,6 @@ fn remove<'a>(host: &Host<'_>, asked: &Removing<'a>, acts: &mut Acts) -> Result<
 fn set<'a>(host: &Host<'_>, asked: Setting<'a>, acts: &mut Acts) -> Result<u8, Failed<'a>>
     ensures done { IfOk result (λ status. status ≡ DONE) }
     ensures dry { asked.entry.target.is_dry ≡ true → KeepsQuiet acts.old.events acts.new.events }
-    ensures sets { Sets asked.entry (problem_of result) acts.old.events acts.new.events }
 {
     let target = asked.target;
     let edit = Edit::Set {
@@ -141,7 +136,6 @@ fn copy_from<'a>(
 ) -> Result<u8, Failed<'a>>
     ensures done { IfOk result (λ status. status ≡ DONE) }
     ensures dry { asked.now.target.is_dry ≡ true → KeepsQuiet acts.old.events acts.new.events }
-    ensures copies { Copies asked.now (problem_of result) acts.old.events acts.new.events }
 {
     let from = asked.from;
     let bytes = of_file(from, read(host, from, acts))?;
@@ -159,7 +153,6 @@ pub fn copy_rows<'a>(
 ) -> Result<u8, Failed<'a>>
     ensures done { IfOk result (λ status. status ≡ DONE) }
     ensures dry { asked.now.target.is_dry ≡ true → KeepsQuiet acts.old.events acts.new.events }
-    ensures copies { CopiesRows asked.now rows.now (problem_of result) acts.old.events acts.new.events }
 {
     let chosen = asked.chosen.as_slice();
     of_file(asked.from, can_copy(host, chosen, rows))?;
@@ -172,8 +165,6 @@ pub fn copy_rows<'a>(
 
 /// Whether each choice means a row, and no two rows that are meant have one type and id.
 fn can_copy(host: &Host<'_>, chosen: &[Choice], rows: &[Row<'_>]) -> Result<(), Problem>
-    ensures can { IfOk result (λ _. CanCopy chosen.now rows.now) }
-    ensures refused { IfErr result (IsNotCopied chosen.now rows.now) }
 {
     match unmet(chosen, rows) {
         Some(Choice::One(what)) => return Err(Problem::Edit(Refusal::Missing(*what))),
@@ -257,7 +248,6 @@ fn difference_text(
 /// Writes a fork of the files in a folder, alone or in a file like another one; or puts its resources into a file.
 fn pack<'a>(host: &Host<'_>, asked: Packing<'a>, acts: &mut Acts) -> Result<u8, Failed<'a>>
     ensures done { IfOk result (λ status. status ≡ DONE) }
-    ensures packs { PacksLike (option_map (λ path. path.now) asked.entry.like) asked.entry (problem_of result) acts.old.events acts.new.events }
     ensures dry { is_dry_place asked.entry.place ≡ true → KeepsQuiet acts.old.events acts.new.events }
 {
     let Some(name) = asked.like else {
@@ -292,7 +282,6 @@ fn put_into(
 ) -> Result<u8, Problem>
     ensures done { IfOk result (λ status. status ≡ DONE) }
     ensures dry { target.now.is_dry ≡ true → KeepsQuiet acts.old.events acts.new.events }
-    ensures puts { PutsInto target.now creates edit.entry result acts.old.events acts.new.events }
 {
     if target.file == INPUT {
         return change(host, target, &[], edit, acts);

@@ -1,9 +1,5 @@
 use Rattle.resfork.specs.Acts.{KeepsQuiet}
-use Rattle.resfork.specs.Packing.{KeepsReading}
 use Rattle.resfork.proofs.rez.read_files.Given as goal
 
 abbrev pub invariant-loop-entry : goal.invariant-loop-entry
-invariant-loop-entry l = record {
-  quiet : KeepsQuiet l.fn.acts.events l.acts.events;
-  reads : KeepsReading l.folder l.fn.acts.events l.acts.events
-}
+invariant-loop-entry l = KeepsQuiet l.fn.acts.events l.acts.events
