@@ -3,10 +3,5 @@ pub mod Problems
 pub mod Reading
 pub mod Acts
 pub mod Saving
-pub mod Showing
-pub mod Reporting
-pub mod Salvaging
-pub mod Using
-pub mod Working
 pub mod Running
 pub mod Order

@@ -1,5 +1,5 @@
--- What the program does, by what is asked of it.
-use Rattle.std.specs.Prelude.{◌≡◌, ◌⊎◌, ℕ, Bool, true, false, is_none, List, ◌∷◌, Result, ⊤}
+-- What the program reads and writes, by what is asked of it.
+use Rattle.std.specs.Prelude.{Bool, true, false, is_none, ℕ, List}
 use Rattle.fork_words.specs.declared.asked.Asked.{Asked}
 use Rattle.fork_words.specs.declared.asked.Asked.TheVariants as asked
 use Rattle.fork_words.specs.declared.asked.Salvage.{Salvage}
@@ -8,35 +8,7 @@ use Rattle.fork_words.specs.declared.work.Place.{Place}
 use Rattle.fork_words.specs.declared.work.Place.TheVariants.{New, Into}
 use Rattle.fork_words.specs.declared.work.Work.{Work}
 use Rattle.fork_words.specs.declared.work.Work.TheVariants as work
-use Rattle.resfork.specs.declared.acts.Act.TheVariants as act
-use Rattle.resfork.specs.declared.message.Problem.{Problem}
-use Rattle.resfork.specs.Acts.{Log}
-use Rattle.resfork.specs.Reporting.{ReportsAll}
-use Rattle.resfork.specs.Salvaging.{SalvagesFile}
-use Rattle.resfork.specs.Showing.{Files, HasStatus, ShowsAll}
-use Rattle.resfork.specs.Using.{Derezzes, UnpacksTable, UsesFile, Views}
-use Rattle.resfork.specs.Working.{Compares}
-
--- what a command did that compares files, or shows resources as a text; of one that writes a file nothing more is said
-abbrev pub Works : Work → Result ℕ Problem → Log → Log → Type 0
-Works (work.Compare asked) result old new = Compares asked result old new
-Works (work.Derez asked) result old new = UsesFile (Derezzes asked.kinds.items) asked.file.now result old new
-Works other result old new = ⊤
-
--- some text was written, unless the host has no memory for it
-abbrev pub TellsText : ℕ → Log → Log → Type 0
-TellsText status old new = ((status ≡ 4) × (new ≡ old)) ⊎ ((text : List ℕ) × (((status ≡ 0) × (new ≡ act.Printed text true ∷ old)) ⊎ ((status ≡ 4) × (new ≡ act.Printed text false ∷ old))))
-
--- With what is asked for, the program did this, and ended with this status: which files were opened, read and made, by
--- which paths; the bytes that came from each and that went to each, and to the standard output; and nothing else.
-abbrev pub ResforkEnds : Files → Asked → ℕ → Log → Log → Type 0
-ResforkEnds files (asked.Show showing) = ShowsAll files showing
-ResforkEnds files (asked.Report reporting) = ReportsAll reporting
-ResforkEnds files (asked.Salvage salvaging) = HasStatus (SalvagesFile salvaging)
-ResforkEnds files (asked.View viewing) = HasStatus (UsesFile (Views viewing) viewing.file.now)
-ResforkEnds files (asked.Unpack unpacking file) = HasStatus (UsesFile (UnpacksTable unpacking) file.now)
-ResforkEnds files (asked.Change change) = HasStatus (Works change)
-ResforkEnds files (asked.Tell text) = TellsText
+use Rattle.resfork.specs.Acts.{Log, ReadsBoth, ReadsNothing, ReadsOnly, ReadsThese, WritesNothing}
 
 -- nothing is written in this place
 abbrev pub is_dry_place : Place → Bool
@@ -70,3 +42,20 @@ only_reads (asked.View viewing) = is_none viewing.output
 only_reads (asked.Unpack unpacking file) = false
 only_reads (asked.Change change) = writes_nothing change
 only_reads (asked.Tell text) = true
+
+-- a command that writes to no file read just the files that it names; where it only says what it would do, files that it
+-- needs for that
+abbrev pub ReadsWork : Work → Log → Log → Type 0
+ReadsWork (work.Compare asked) = ReadsBoth asked.a.now asked.b.now
+ReadsWork (work.Derez asked) = ReadsOnly asked.file.now
+ReadsWork other = WritesNothing
+
+-- the same of whatever is asked for
+abbrev pub ReadsAsked : Asked → Log → Log → Type 0
+ReadsAsked (asked.Show showing) = ReadsThese showing.files.items
+ReadsAsked (asked.Report reporting) = ReadsThese reporting.files.items
+ReadsAsked (asked.Salvage salvaging) = ReadsOnly salvaging.file.now
+ReadsAsked (asked.View viewing) = ReadsOnly viewing.file.now
+ReadsAsked (asked.Unpack unpacking file) = ReadsOnly file.now
+ReadsAsked (asked.Change change) = ReadsWork change
+ReadsAsked (asked.Tell text) = ReadsNothing

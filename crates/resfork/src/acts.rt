@@ -2,7 +2,7 @@
 
 ghost use Rattle.std.specs.Prelude.{◌≡◌, ◌∷◌, Some, is_ok};
 ghost use Rattle.host_paths.specs.Asked.{answer_of};
-ghost use Rattle.resfork.specs.Acts.{KeepsQuiet, Prints, bytes_read};
+ghost use Rattle.resfork.specs.Acts.{Prints, ReadsNothing, ReadsOnly, bytes_read};
 ghost use Rattle.resfork.specs.declared.acts.Act.TheVariants as act;
 
 use crate::host::Host;
@@ -119,7 +119,7 @@ pub fn note_unpacked(acts: &mut Acts, calls: &FolderCalls)
 /// What a path leads to over links, if anything.
 pub fn look_at(host: &Host<'_>, path: &str, acts: &mut Acts) -> io::Result<Option<Found>>
     ensures asks { acts.new.events ≡ act.Asked path.now (answer_of result) ∷ acts.old.events }
-    ensures quiet { KeepsQuiet acts.old.events acts.new.events }
+    ensures quiet { ReadsOnly path.now acts.old.events acts.new.events }
 {
     let found = found_over(host.rt, path, &mut HostCalls::new());
     note_asked(acts, path, &found);
@@ -129,7 +129,7 @@ pub fn look_at(host: &Host<'_>, path: &str, acts: &mut Acts) -> io::Result<Optio
 /// Writes bytes to the standard output.
 pub fn write_out(host: &Host<'_>, bytes: &[u8], acts: &mut Acts) -> io::Result<()>
     ensures prints { acts.new.events ≡ act.Printed bytes.now (is_ok result) ∷ acts.old.events }
-    ensures quiet { KeepsQuiet acts.old.events acts.new.events }
+    ensures quiet { ReadsNothing acts.old.events acts.new.events }
 {
     let done = host.output().write_all(bytes);
     note_printed(acts, bytes, &done);
@@ -139,7 +139,7 @@ pub fn write_out(host: &Host<'_>, bytes: &[u8], acts: &mut Acts) -> io::Result<(
 /// The same, for one who is told a problem.
 pub fn print(host: &Host<'_>, bytes: &[u8], acts: &mut Acts) -> Result<(), Problem>
     ensures prints { Prints bytes.now result acts.old.events acts.new.events }
-    ensures quiet { KeepsQuiet acts.old.events acts.new.events }
+    ensures quiet { ReadsNothing acts.old.events acts.new.events }
 {
     match write_out(host, bytes, acts) {
         Ok(()) => Ok(()),

