@@ -7,7 +7,6 @@ use Rattle.fork_edit.specs.declared.file.NotWritten.TheVariants as written
 use Rattle.fork_report.specs.declared.refusal.Refusal.{Refusal}
 use Rattle.fork_report.specs.Refused.{IsToldOf}
 use Rattle.fork_report.specs.Salvaged.{CanBeSalvaged}
-use Rattle.file_replace.specs.declared.told.NotReplaced.{NotReplaced}
 use Rattle.fork_words.specs.declared.work.Target.{Target}
 use Rattle.resfork.specs.declared.message.Problem.{Problem}
 use Rattle.resfork.specs.declared.message.Problem.TheVariants as problem
@@ -50,12 +49,6 @@ IsNotSaved path (problem.Print error) = path ≡ codes "-"
 IsNotSaved path (problem.Output name error) = (path ≢ codes "-") × (string_bytes name ≡ path)
 IsNotSaved path problem.HostFull = path ≢ codes "-"
 IsNotSaved path other = ⊥
-
--- it is reported of the file of this path that it isn't written, and why, unless the host has no memory
-abbrev pub IsToldOfFile : List ℕ → NotReplaced → Problem → Type 0
-IsToldOfFile path error (problem.Output name told) = (string_bytes name ≡ path) × (told ≡ error)
-IsToldOfFile path error problem.HostFull = ⊤
-IsToldOfFile path error other = ⊥
 
 -- nothing is written: no other file is named, or it is only said what would be done
 abbrev pub IsIdle : Target → Type 0
