@@ -140,8 +140,7 @@ fn changed_of(
     old: &[u8],
     from: &[Row<'_>],
     edit: Edit<'_>,
-) -> Result<Option<NewFile>, Problem>
-{
+) -> Result<Option<NewFile>, Problem> {
     let alloc = host.alloc();
     match changed(alloc, old, from, edit) {
         Ok(changed) => Ok(changed),

@@ -8,10 +8,10 @@ use crate::acts::{Acts, note_identified};
 use crate::asked_change::Conversion;
 use crate::change::{say, written_file};
 use crate::host::Host;
+use crate::input::{read, read_other};
 use crate::message::{DONE, Problem};
 use crate::order::{Order, order_of};
 use crate::save::{OUTPUT, Ready, put_two, save_to};
-use crate::input::{read, read_other};
 use crate::{INPUT, fork_found, refused_as, table_found};
 use fork_answer::{Failure, NoFork};
 use fork_edit::convert::{Loss, NotConverted, Rewritten, Transfer, converted, holds_data};
@@ -37,8 +37,7 @@ enum Place {
 }
 
 /// Where the data fork of bytes is.
-fn place_of(bytes: &[u8]) -> Place
-{
+fn place_of(bytes: &[u8]) -> Place {
     match kind_of(bytes) {
         FileKind::Container(Container::AppleDouble) => Place::Beside,
         kind if kind.is_alone() => Place::Nowhere,
@@ -47,14 +46,12 @@ fn place_of(bytes: &[u8]) -> Place
 }
 
 /// Whether the data fork of bytes is in the file itself.
-fn is_inside(bytes: &[u8]) -> bool
-{
+fn is_inside(bytes: &[u8]) -> bool {
     matches!(place_of(bytes), Place::Inside)
 }
 
 /// The name of the new file: the one that is asked for, its own, or in MacBinary and BinHex that of the path.
-fn name_for(alloc: Global, asked: &Conversion<'_>, file: &MacFile) -> Result<Vec<u8>, AllocError>
-{
+fn name_for(alloc: Global, asked: &Conversion<'_>, file: &MacFile) -> Result<Vec<u8>, AllocError> {
     match (&asked.name, asked.kind) {
         (Some(name), _) => Vec::from_slice(alloc, name.as_slice()),
         (None, Kind::MacBinary | Kind::BinHex)
@@ -78,8 +75,7 @@ fn lost_words(alloc: Global, lost: &[Loss]) -> Result<String, AllocError> {
 }
 
 /// Whether a file is known for sure by its bytes.
-fn is_sure(bytes: &[u8]) -> bool
-{
+fn is_sure(bytes: &[u8]) -> bool {
     match kind_of(bytes) {
         FileKind::Container(Container::MacBinary(Version::I)) => false,
         kind => kind.is_known(),
@@ -87,8 +83,7 @@ fn is_sure(bytes: &[u8]) -> bool
 }
 
 /// Checks that bytes in no container that is known for sure are a resource fork.
-fn check_fork(host: &Host<'_>, bytes: &[u8]) -> Result<(), Problem>
-{
+fn check_fork(host: &Host<'_>, bytes: &[u8]) -> Result<(), Problem> {
     if !is_sure(bytes) {
         let found = fork_found(host, bytes)?;
         table_found(host, &found, bytes)?;
@@ -97,8 +92,7 @@ fn check_fork(host: &Host<'_>, bytes: &[u8]) -> Result<(), Problem>
 }
 
 /// These bytes, unless the host has no memory.
-fn copied(host: &Host<'_>, bytes: &[u8]) -> Result<Vec<u8>, Problem>
-{
+fn copied(host: &Host<'_>, bytes: &[u8]) -> Result<Vec<u8>, Problem> {
     match Vec::from_slice(host.alloc(), bytes) {
         Ok(copied) => Ok(copied),
         Err(_) => Err(Problem::HostFull),
@@ -164,11 +158,7 @@ fn order_for(
 }
 
 /// The same, where the data fork has a file of its own.
-fn order_if(
-    host: &Host<'_>,
-    asked: &Conversion<'_>,
-    acts: &mut Acts,
-) -> Result<Order, Problem>
+fn order_if(host: &Host<'_>, asked: &Conversion<'_>, acts: &mut Acts) -> Result<Order, Problem>
     ensures one_file { option_map (λ path. path.now) asked.now.data ≡ Some (written_file asked.now.target) → result ≡ Err Problem.OneFile }
     ensures quiet { WritesNothing acts.old.events acts.new.events }
 {
@@ -187,8 +177,7 @@ fn write_both<'a>(
     new: &'a [u8],
     data: &'a [u8],
     acts: &mut Acts,
-) -> Result<(), Problem>
-{
+) -> Result<(), Problem> {
     let output = written_file(&asked.target);
     match asked.data {
         Some(path) if !holds_data(asked.kind) => {
@@ -207,8 +196,7 @@ fn put_in(
     output: Ready<'_>,
     data: Ready<'_>,
     acts: &mut Acts,
-) -> Result<(), Problem>
-{
+) -> Result<(), Problem> {
     match order {
         Order::OutputFirst => put_two(host, output, data, acts),
         Order::DataFirst => put_two(host, data, output, acts),
@@ -233,8 +221,7 @@ fn write_converted(
 }
 
 /// The file in its new container.
-fn in_container(alloc: Global, transfer: &Transfer<'_>) -> Result<Rewritten, Problem>
-{
+fn in_container(alloc: Global, transfer: &Transfer<'_>) -> Result<Rewritten, Problem> {
     match converted(alloc, transfer) {
         Ok(new) => Ok(new),
         Err(NotConverted::NotHeld(lost)) => Err(would_lose(alloc, &lost)),
@@ -244,8 +231,7 @@ fn in_container(alloc: Global, transfer: &Transfer<'_>) -> Result<Rewritten, Pro
 }
 
 /// That a file isn't written in another container since it would lose this.
-fn would_lose(alloc: Global, lost: &[Loss]) -> Problem
-{
+fn would_lose(alloc: Global, lost: &[Loss]) -> Problem {
     match lost_words(alloc, lost) {
         Ok(words) => Problem::Lost(words),
         Err(_) => Problem::HostFull,
@@ -253,11 +239,7 @@ fn would_lose(alloc: Global, lost: &[Loss]) -> Problem
 }
 
 /// Writes a file in another container. The result is the exit status.
-pub fn convert(
-    host: &Host<'_>,
-    asked: &Conversion<'_>,
-    acts: &mut Acts,
-) -> Result<u8, Problem>
+pub fn convert(host: &Host<'_>, asked: &Conversion<'_>, acts: &mut Acts) -> Result<u8, Problem>
     ensures done { IfOk result (λ status. status ≡ DONE) }
     ensures one_file { option_map (λ path. path.now) asked.now.data ≡ Some (written_file asked.now.target) → result ≡ Err Problem.OneFile }
     ensures dry { asked.now.target.is_dry ≡ true → WritesNothing acts.old.events acts.new.events }

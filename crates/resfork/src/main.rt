@@ -32,8 +32,8 @@ use fork_disk::{Unknown, World};
 use fork_list::absent_kind;
 use fork_list::letters::Letters;
 use fork_report::{
-    Bytes, ContainerDamage, Digests, ForkSalvaged, Form, InsideNote, Refusal, Report, Told, archive_inside,
-    each_line, refused_line, report_on, salvage, salvage_data, salvage_list,
+    Bytes, ContainerDamage, Digests, ForkSalvaged, Form, InsideNote, Refusal, Report, Told,
+    archive_inside, each_line, refused_line, report_on, salvage, salvage_data, salvage_list,
 };
 use fork_view::unpack::unpack;
 use fork_view::{Chosen, NotShown, Sight, Unpacking, sight_of};
@@ -50,9 +50,9 @@ use mac_files::archive::Archive;
 use message::{
     BAD_WORDS, CANT_GO_ON, DONE, NO_FORK, Problem, tell_bad_words, tell_inside, tell_problem,
 };
+use new_folder::FolderCalls;
 use parts::{answer_by_parts, list_by_parts};
 use path_text::FileName;
-use new_folder::FolderCalls;
 use save::save_to;
 use std::alloc::AllocError;
 use std::io::{ErrorKind, IsTerminal};
@@ -140,12 +140,7 @@ fn write_title(host: &Host<'_>, file: &str, acts: &mut Acts) -> Result<(), Probl
 }
 
 /// Writes lines, each with the name of a file before it.
-fn write_each(
-    host: &Host<'_>,
-    file: &str,
-    lines: &[u8],
-    acts: &mut Acts,
-) -> Result<(), Problem>
+fn write_each(host: &Host<'_>, file: &str, lines: &[u8], acts: &mut Acts) -> Result<(), Problem>
     ensures quiet { ReadsNothing acts.old.events acts.new.events }
 {
     let alloc = host.alloc();
@@ -248,8 +243,7 @@ fn save_answer<W: World>(
     file: &str,
     output: &str,
     acts: &mut Acts,
-) -> Result<(), Problem>
-{
+) -> Result<(), Problem> {
     let answered = answer_file::<W>(host, request, file, acts)?;
     save_to(host, output, &answered.text, acts)
 }
@@ -312,8 +306,7 @@ fn answer_whole(
 }
 
 /// Why what is asked for isn't shown of a file with these bytes. A resource that isn't there is named.
-fn unanswered(host: &Host<'_>, request: &Request, failure: Failure, bytes: &[u8]) -> Problem
-{
+fn unanswered(host: &Host<'_>, request: &Request, failure: Failure, bytes: &[u8]) -> Problem {
     match (request, failure) {
         (Request::Get(wanted), Failure::NotFound) => Problem::of_missing(host.alloc(), wanted),
         (_, failure) => refused_as(host, failure, bytes),
@@ -321,8 +314,7 @@ fn unanswered(host: &Host<'_>, request: &Request, failure: Failure, bytes: &[u8]
 }
 
 /// Why something isn't shown of a file with these bytes.
-fn refused_as(host: &Host<'_>, failure: Failure, bytes: &[u8]) -> Problem
-{
+fn refused_as(host: &Host<'_>, failure: Failure, bytes: &[u8]) -> Problem {
     let refusal = Refusal::of_failure(host.alloc(), failure, bytes);
     Problem::of_refusal(host.alloc(), refusal, bytes)
 }
@@ -359,8 +351,7 @@ fn report_one<W: World>(
 }
 
 /// Whether a report is one of lines of JSON, in which each file is named.
-fn is_json(report: &Report) -> bool
-{
+fn is_json(report: &Report) -> bool {
     matches!(report.form(), Form::Json)
 }
 
@@ -492,11 +483,7 @@ fn finish(host: &Host<'_>, file: &str, done: Result<u8, Problem>) -> u8
 }
 
 /// Lists what can be read of a file, or writes it to another. The result is the exit status.
-fn salvage_file(
-    host: &Host<'_>,
-    asked: Salvaging<'_>,
-    acts: &mut Acts,
-) -> Result<u8, Problem>
+fn salvage_file(host: &Host<'_>, asked: Salvaging<'_>, acts: &mut Acts) -> Result<u8, Problem>
     ensures done { IfOk result (λ status. status ≡ DONE) }
     ensures quiet { only_lists asked.entry.what ≡ true → ReadsOnly asked.entry.file.now acts.old.events acts.new.events }
 {
@@ -552,8 +539,7 @@ fn save_data<'a>(
     bytes: &[u8],
     output: &'a str,
     acts: &mut Acts,
-) -> Result<(), Problem>
-{
+) -> Result<(), Problem> {
     match salvage_data(host.alloc(), bytes) {
         Ok(salvaged) => {
             let done = save_to(host, output, salvaged.bytes(), acts);
@@ -573,8 +559,7 @@ fn save_salvaged<'a>(
     bytes: &[u8],
     output: &'a str,
     acts: &mut Acts,
-) -> Result<(), Problem>
-{
+) -> Result<(), Problem> {
     match salvage(host.alloc(), bytes) {
         Ok(salvaged) => {
             let done = save_to(host, output, &salvaged.bytes, acts);
@@ -598,8 +583,7 @@ fn tell_salvaged(host: &Host<'_>, file: &str, output: &str, salvaged: &ForkSalva
 }
 
 /// The file that bytes hold, which has a resource fork.
-fn fork_found<'a>(host: &Host<'_>, bytes: &'a [u8]) -> Result<OldFile<'a>, Problem>
-{
+fn fork_found<'a>(host: &Host<'_>, bytes: &'a [u8]) -> Result<OldFile<'a>, Problem> {
     match resource_fork(host.alloc(), bytes) {
         Ok(found) => Ok(found),
         Err(fault) => Err(refused_as(host, Failure::NoFork(fault), bytes)),
@@ -611,8 +595,7 @@ fn table_found<'a>(
     host: &Host<'_>,
     found: &'a OldFile<'_>,
     bytes: &[u8],
-) -> Result<Table<'a>, Problem>
-{
+) -> Result<Table<'a>, Problem> {
     match read_table(host.alloc(), found.fork()) {
         Ok(table) => Ok(table),
         Err(fault) => Err(refused_as(host, Failure::Fork(fault), bytes)),
@@ -667,6 +650,7 @@ fn use_table_in<U: TableUse>(
 
 impl TableUse for Viewing<'_> {
     ghost use Rattle.std.specs.Prelude.{◌≡◌, is_none, true};
+
     ghost only_reads = { λ asked. is_none asked.output ≡ true };
 
     /// The resources are shown to people. Those of several that can't be shown so are a problem after the others.
@@ -714,8 +698,7 @@ pub fn check_kinds(kinds: &[ResType], rows: &[Row<'_>]) -> Result<(), Problem>
 }
 
 /// Whether there is a resource of the type of which all are asked for.
-fn check_kind(chosen: &Chosen, rows: &[Row<'_>]) -> Result<(), Problem>
-{
+fn check_kind(chosen: &Chosen, rows: &[Row<'_>]) -> Result<(), Problem> {
     match chosen {
         Chosen::Kind(kind) => check_kinds(&[*kind], rows),
         _ => check_kinds(&[], rows),
@@ -723,8 +706,7 @@ fn check_kind(chosen: &Chosen, rows: &[Row<'_>]) -> Result<(), Problem>
 }
 
 /// Why nothing is shown of what was chosen. A resource that isn't there is named.
-fn unseen(host: &Host<'_>, chosen: &Chosen, fault: NotShown) -> Problem
-{
+fn unseen(host: &Host<'_>, chosen: &Chosen, fault: NotShown) -> Problem {
     match (chosen, fault) {
         (Chosen::One(wanted), NotShown::NotFound) => Problem::of_missing(host.alloc(), wanted),
         (_, fault) => Problem::View(fault),

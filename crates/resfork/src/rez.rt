@@ -48,6 +48,7 @@ struct Derez<'a>(&'a [ResType]);
 
 impl TableUse for Derez<'_> {
     ghost use Rattle.std.specs.Prelude.{⊤};
+
     ghost only_reads = { λ _. ⊤ };
 
     fn done(
@@ -78,11 +79,7 @@ pub fn derez_file(
 }
 
 /// Writes a fork of a text, or puts its resources into a file.
-pub fn rez_file<'a>(
-    host: &Host<'_>,
-    asked: Rezzing<'a>,
-    acts: &mut Acts,
-) -> Result<u8, Failed<'a>>
+pub fn rez_file<'a>(host: &Host<'_>, asked: Rezzing<'a>, acts: &mut Acts) -> Result<u8, Failed<'a>>
     ensures done { IfOk result (λ status. status ≡ DONE) }
     ensures dry { is_dry_place asked.entry.place ≡ true → WritesNothing acts.old.events acts.new.events }
 {
@@ -130,7 +127,13 @@ fn deliver<'a>(
         Place::Into {
             target,
             on_collision,
-        } => put_rows(host, (source, target), on_collision, table.rows.as_slice(), acts),
+        } => put_rows(
+            host,
+            (source, target),
+            on_collision,
+            table.rows.as_slice(),
+            acts,
+        ),
     }
 }
 
@@ -172,8 +175,7 @@ fn put_rows<'a>(
 }
 
 /// What is in the way, with what can be done where a resource is there already.
-fn with_advice(failed: Failed<'_>) -> Failed<'_>
-{
+fn with_advice(failed: Failed<'_>) -> Failed<'_> {
     match failed {
         Failed {
             file,
@@ -187,8 +189,7 @@ fn with_advice(failed: Failed<'_>) -> Failed<'_>
 }
 
 /// Whether bytes are those of a file that has more than a resource fork.
-fn is_container(bytes: &[u8]) -> bool
-{
+fn is_container(bytes: &[u8]) -> bool {
     !kind_of(bytes).is_alone()
 }
 
@@ -222,8 +223,7 @@ fn check_bytes(
     bytes: &[u8],
     table: &Table<'_>,
     new: &[u8],
-) -> Result<(), Problem>
-{
+) -> Result<(), Problem> {
     let alloc = host.alloc();
     if is_container(bytes) && !keeps_others(alloc, bytes, table, new)? {
         return Err(Problem::Container(String::from_str(alloc, name)?));
@@ -268,8 +268,7 @@ fn apart<'r, 'a>(alloc: Global, rows: &'r [Row<'a>]) -> Result<Option<&'r Row<'a
 }
 
 /// Refuses rows of which some of one type are apart: a fork can't say so.
-fn check_together(alloc: Global, rows: &[Row<'_>]) -> Result<(), Problem>
-{
+fn check_together(alloc: Global, rows: &[Row<'_>]) -> Result<(), Problem> {
     let Some(row) = apart(alloc, rows)? else {
         return Ok(());
     };
@@ -350,12 +349,7 @@ fn read_beginning(host: &Host<'_>, path: &str, most: u64) -> Result<Vec<u8>, Not
 }
 
 /// The same, noted.
-fn read_front(
-    host: &Host<'_>,
-    path: &str,
-    most: u64,
-    acts: &mut Acts,
-) -> Result<Vec<u8>, NotRead>
+fn read_front(host: &Host<'_>, path: &str, most: u64, acts: &mut Acts) -> Result<Vec<u8>, NotRead>
     ensures notes { acts.new.events ≡ act.ReadFront path.now most (bytes_read result) ∷ acts.old.events }
     ensures quiet { ReadsOnly path.now acts.old.events acts.new.events }
 {

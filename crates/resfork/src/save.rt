@@ -51,8 +51,7 @@ fn prepared<'a>(
     path: &str,
     bytes: &'a [u8],
     log: &mut HeldCalls,
-) -> Result<Prepared<'a, UnknownFolder>, NotReplaced>
-{
+) -> Result<Prepared<'a, UnknownFolder>, NotReplaced> {
     match Destination::open(host.rt, path, log) {
         Ok(destination) => destination.prepare(host.rt, bytes, log),
         Err(refusal) => Err(refusal),
@@ -88,8 +87,7 @@ pub struct Renewal<'a> {
 }
 
 /// Opens a regular file that is to be replaced, and locks it.
-pub fn open_held(host: &Host<'_>, path: &str, acts: &mut Acts) -> Result<Held, Problem>
-{
+pub fn open_held(host: &Host<'_>, path: &str, acts: &mut Acts) -> Result<Held, Problem> {
     let mut log = HeldCalls::new();
     let held = Held::open(host.rt, path, &mut log);
     note_saved(acts, &log);
@@ -106,8 +104,7 @@ fn renewed(
     held: Held,
     change: &Renewal<'_>,
     log: &mut HeldCalls,
-) -> Result<(), NotReplaced>
-{
+) -> Result<(), NotReplaced> {
     match held.prepare::<UnknownFolder, UnknownFolder>(
         host.rt,
         change.old,
@@ -133,8 +130,7 @@ pub fn renew(
     held: Held,
     change: &Renewal<'_>,
     acts: &mut Acts,
-) -> Result<(), Problem>
-{
+) -> Result<(), Problem> {
     let mut log = HeldCalls::new();
     let done = renewed(host, path, held, change, &mut log);
     note_saved(acts, &log);
@@ -246,8 +242,7 @@ fn put_files(
     first: ReadyFile<'_>,
     second: ReadyFile<'_>,
     acts: &mut Acts,
-) -> Result<(), Problem>
-{
+) -> Result<(), Problem> {
     let ReadyFile { path, prepared } = first;
     let ReadyFile {
         path: next,
@@ -268,8 +263,7 @@ pub fn put_two(
     first: Ready<'_>,
     second: Ready<'_>,
     acts: &mut Acts,
-) -> Result<(), Problem>
-{
+) -> Result<(), Problem> {
     match (first, second) {
         (Ready::File(first), Ready::File(second)) => put_files(host, first, second, acts),
         (first, second) => {
@@ -280,12 +274,7 @@ pub fn put_two(
 }
 
 /// Writes a file, which is whole then, or as it was; or bytes to the standard output, unless it is a terminal.
-pub fn save_to(
-    host: &Host<'_>,
-    output: &str,
-    bytes: &[u8],
-    acts: &mut Acts,
-) -> Result<(), Problem>
+pub fn save_to(host: &Host<'_>, output: &str, bytes: &[u8], acts: &mut Acts) -> Result<(), Problem>
     ensures cause { IfErr result (IsNotSaved output.now) }
 {
     put_ready(host, output, bytes, acts)

@@ -107,7 +107,10 @@ fn remove<'a>(host: &Host<'_>, asked: &Removing<'a>, acts: &mut Acts) -> Result<
     ensures dry { asked.now.target.is_dry ≡ true → WritesNothing acts.old.events acts.new.events }
 {
     let edit = Edit::Remove(asked.whats.as_slice());
-    of_file(asked.target.file, change(host, &asked.target, &[], edit, acts))
+    of_file(
+        asked.target.file,
+        change(host, &asked.target, &[], edit, acts),
+    )
 }
 
 /// Changes all of a resource but its bytes.
@@ -124,11 +127,7 @@ fn set<'a>(host: &Host<'_>, asked: Setting<'a>, acts: &mut Acts) -> Result<u8, F
 }
 
 /// Copies resources of a file to another.
-fn copy_from<'a>(
-    host: &Host<'_>,
-    asked: &Copying<'a>,
-    acts: &mut Acts,
-) -> Result<u8, Failed<'a>>
+fn copy_from<'a>(host: &Host<'_>, asked: &Copying<'a>, acts: &mut Acts) -> Result<u8, Failed<'a>>
     ensures done { IfOk result (λ status. status ≡ DONE) }
     ensures dry { asked.now.target.is_dry ≡ true → WritesNothing acts.old.events acts.new.events }
 {
@@ -155,12 +154,14 @@ pub fn copy_rows<'a>(
         chosen,
         on_collision: asked.on_collision,
     };
-    of_file(asked.target.file, change(host, &asked.target, rows, edit, acts))
+    of_file(
+        asked.target.file,
+        change(host, &asked.target, rows, edit, acts),
+    )
 }
 
 /// Whether each choice means a row, and no two rows that are meant have one type and id.
-fn can_copy(host: &Host<'_>, chosen: &[Choice], rows: &[Row<'_>]) -> Result<(), Problem>
-{
+fn can_copy(host: &Host<'_>, chosen: &[Choice], rows: &[Row<'_>]) -> Result<(), Problem> {
     match unmet(chosen, rows) {
         Some(Choice::One(what)) => return Err(Problem::Edit(Refusal::Missing(*what))),
         Some(Choice::Kind(kind)) => return Err(Problem::NoKind(*kind)),
@@ -173,11 +174,7 @@ fn can_copy(host: &Host<'_>, chosen: &[Choice], rows: &[Row<'_>]) -> Result<(), 
 }
 
 /// Writes what differs between two files. The result says whether something does.
-fn compare<'a>(
-    host: &Host<'_>,
-    asked: Comparison<'a>,
-    acts: &mut Acts,
-) -> Result<u8, Failed<'a>>
+fn compare<'a>(host: &Host<'_>, asked: Comparison<'a>, acts: &mut Acts) -> Result<u8, Failed<'a>>
     ensures few { IfOk result (λ status. status ≤ NOT_FOUND) }
     ensures quiet { ReadsBoth asked.entry.a.now asked.entry.b.now acts.old.events acts.new.events }
 {
@@ -212,6 +209,7 @@ fn write_differences(
     new: &Table<'_>,
     acts: &mut Acts,
 ) -> Result<u8, Problem>
+    ensures same { IfOk result (λ status. old.now ≡ new.now → status ≡ DONE) }
     ensures differs { IfOk result (λ status. old.now ≢ new.now → status ≡ NOT_FOUND) }
     ensures few { IfOk result (λ status. status ≤ NOT_FOUND) }
     ensures quiet { ReadsNothing acts.old.events acts.new.events }

@@ -5,5 +5,5 @@ use Rattle.resfork.proofs.report_all.Given as goal
 abbrev pub invariant-loop-file : goal.invariant-loop-file
 invariant-loop-file g l = record {
   few : l.status ≤ 4;
-  quiet : ReadsThese l.asked.files.items l.initial.acts.events l.acts.events
+  quiet : ReadsThese l.asked.files.items l.initial.acts.events l.acts.events;
 }

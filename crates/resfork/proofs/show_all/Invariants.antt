@@ -6,5 +6,5 @@ use Rattle.resfork.proofs.show_all.Given as goal
 abbrev pub invariant-loop-file : goal.invariant-loop-file
 invariant-loop-file g l = record {
   few : l.status ≤ 4;
-  quiet : is_none l.asked.output ≡ true → ReadsThese l.asked.files.items l.initial.acts.events l.acts.events
+  quiet : is_none l.asked.output ≡ true → ReadsThese l.asked.files.items l.initial.acts.events l.acts.events;
 }
