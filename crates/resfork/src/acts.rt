@@ -136,7 +136,7 @@ pub fn write_out(host: &Host<'_>, bytes: &[u8], acts: &mut Acts) -> io::Result<(
     done
 }
 
-/// The same, for one who is told a problem.
+/// The same, or the problem.
 pub fn print(host: &Host<'_>, bytes: &[u8], acts: &mut Acts) -> Result<(), Problem>
     ensures prints { Prints bytes.now result acts.old.events acts.new.events }
     ensures quiet { ReadsNothing acts.old.events acts.new.events }
