@@ -1,0 +1,4 @@
+pub mod Extents
+pub mod Leaves
+pub mod Reads
+pub mod Rows

@@ -1,0 +1,2 @@
+pub mod MoreExtents
+pub mod Opened

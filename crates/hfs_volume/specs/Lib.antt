@@ -1,0 +1,4 @@
+pub mod Entries
+pub mod Overflow
+pub mod Volume
+pub mod Opening

@@ -1,0 +1,15 @@
+//! HFS volumes: which folders and files they have, and where the bytes of these are. (*Inside Macintosh: Files*,
+//! chapter 2.)
+#![tactic(auto)]
+
+pub mod entry;
+pub mod fault;
+mod forks;
+pub mod mdb;
+pub mod overflow;
+mod padded;
+#[cfg(test)]
+mod tests;
+pub mod volume;
+
+pub use volume::read_volume;
