@@ -1,9 +1,9 @@
 -- The leaves that were read so far, with those that are left, are the chain.
-use Rattle.std.proofs.Common.{◌≡◌, ℕ, zero, suc, ◌+◌, ◌-◌, ◌<◌, ◌==◌, Bool, true, false, ◌||◌, if◌then◌else◌, List, [], ◌∷◌, ◌++◌, length, get_or, set, replicate, Option, Some, None, Result, Ok, Err, refl, sym, ap, ◌∙◌, subst, arith}
+use Rattle.std.proofs.Common.{◌≡◌, ℕ, zero, suc, ◌+◌, ◌/◌, ◌^◌, ◌<◌, ◌==◌, min, Bool, true, false, ◌||◌, if◌then◌else◌, List, [], ◌∷◌, ◌++◌, length, get_or, set, replicate, Option, Some, None, Result, Ok, Err, refl, sym, ap, ◌∙◌, arith}
 use Rattle.std.proofs.lemmas.List.{append_assoc, append-nil, get_or-replicate, get_or-set_other, length-set, length-replicate}
 use Rattle.std.proofs.lemmas.List.Folds.{list_any-append}
 use Rattle.std.proofs.lemmas.Grind.{get_or-set_at}
-use Rattle.std.specs.List.{list_any}
+use Rattle.std.specs.List.{list_any, AllByRecursion}
 use Rattle.place_numbers.specs.Bits.{mark_of}
 use Rattle.hfs_tree.specs.declared.extent.Extent.{Extent}
 use Rattle.hfs_tree.specs.declared.extent.Layout.{Layout}
@@ -11,7 +11,7 @@ use Rattle.hfs_tree.specs.declared.fault.TreeFault.{TreeFault}
 use Rattle.hfs_tree.specs.declared.fault.Condition.TheVariants.{Again}
 use Rattle.hfs_tree.specs.declared.leaf.Leaf.{Leaf}
 use Rattle.hfs_tree.specs.declared.walk.Link.{Link}
-use Rattle.hfs_tree.specs.Leaves.{Leaves, ends, leaf_at, leaf_before, with_leaf, link_in, fault_of, block_of, has_block, leaves_from}
+use Rattle.hfs_tree.specs.Leaves.{Leaves, ends, leaf_at, leaf_before, with_leaf, link_in, fault_of, block_of, has_block, leaves_from, blocks_in, IsLeaf}
 
 -- leaves before others
 abbrev pub leaves_before : List Leaf → Leaves → Leaves
@@ -58,9 +58,19 @@ goes_on_with volume layout extents left more before link leaf room some is new =
     ap (leaves_before before) one
     ∙ ap (λ (xs : List Leaf). record { leaves = xs; fault = rest.fault }) (sym (append_assoc before (leaf ∷ []) rest.leaves))
 
--- so many leaves and no more
-pub ended : (before : List Leaf) (fault : Option TreeFault) → leaves_before before (ends fault) ≡ record { leaves = before; fault = fault }
-ended before fault = ap (λ (xs : List Leaf). record { leaves = xs; fault = fault }) (append-nil before)
+-- the chain, once there are no more leaves
+pub chain_is : (volume : List ℕ) (layout : Layout) (extents : List Extent) (blocks size : ℕ) (first : Link) (before : List Leaf) (rest : Leaves) (fault : Option TreeFault)
+    → size ≡ length volume → blocks ≡ min (size / 512) (2 ^ 39) → leaves_from volume layout extents blocks [] first ≡ leaves_before before rest → rest ≡ ends fault
+    → record { leaves = before; fault = fault } ≡ leaves_from volume layout extents (blocks_in (length volume)) [] first
+chain_is volume layout extents blocks size first before rest fault is_size is_blocks so_far ended =
+    let count : blocks ≡ blocks_in (length volume) = is_blocks ∙ ap (λ (n : ℕ). min (n / 512) (2 ^ 39)) is_size in
+    sym (ap (λ (k : ℕ). leaves_from volume layout extents k [] first) (sym count)
+      ∙ so_far ∙ ap (leaves_before before) ended ∙ ap (λ (xs : List Leaf). record { leaves = xs; fault = fault }) (append-nil before))
+
+-- one more that is a leaf
+pub all_with : (before : List Leaf) (leaf : Leaf) → AllByRecursion IsLeaf before → IsLeaf leaf → AllByRecursion IsLeaf (before ++ leaf ∷ [])
+all_with [] leaf all is = (is, tt)
+all_with (first ∷ before) leaf all is = (all.0, all_with before leaf all.1 is)
 
 -- The blocks of these leaves have marks, of so many.
 pub record AreMarks (marks : List ℕ) (count : ℕ) (before : List Leaf) : Type 0 where

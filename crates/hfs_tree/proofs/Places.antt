@@ -1,5 +1,5 @@
 -- Where a byte of extents is, one extent after another.
-use Rattle.std.proofs.Common.{◌≡◌, ℕ, ◌+◌, ◌-◌, ◌*◌, ◌/◌, ◌%◌, ◌<◌, ◌≤◌, List, length, drop, get_or, Option, None, refl, ◌∙◌}
+use Rattle.std.proofs.Common.{◌≡◌, ℕ, ◌+◌, ◌-◌, ◌*◌, ◌/◌, ◌%◌, ◌<◌, ◌≤◌, List, length, drop, get_or, Option, None, Some, refl, ◌∙◌}
 use Rattle.std.proofs.lemmas.List.{at_drop_more, at_drop_all}
 use Rattle.std.proofs.lemmas.Bool.{lt-ltb, le-ltb}
 use Rattle.hfs_tree.specs.declared.extent.Extent.{Extent}
@@ -28,3 +28,10 @@ is_in layout extents i at there within =
 pub is_in_none : (layout : Layout) (extents : List Extent) (i at : ℕ) → length extents ≤ i → place_in layout (drop i extents) at ≡ None
 unfolding place_in
 is_in_none layout extents i at past = at_drop_all (λ xs. place_in layout xs at) extents i past
+
+-- its block is one of the volume's, or is not
+pub no_place : (layout : Layout) (block at : ℕ) → layout.count ≤ block → place_at layout block at ≡ None
+no_place layout block at past = rw (le-ltb block layout.count past) refl
+
+pub a_place : (layout : Layout) (block at : ℕ) → block < layout.count → place_at layout block at ≡ Some (layout.offset + (block * layout.size + at))
+a_place layout block at within = rw (lt-ltb block layout.count within) refl

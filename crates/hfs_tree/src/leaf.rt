@@ -1,6 +1,7 @@
 //! Leaves of a tree.
 
-ghost use Rattle.std.specs.Prelude.{◌≡◌, ◌<◌, ◌^◌, length, MatchResult, None, Some};
+ghost use Rattle.std.specs.Prelude.{◌≡◌, ◌-◌, ◌≤◌, ◌<◌, ◌^◌, length, MatchResult, None, Some};
+ghost use Rattle.std.specs.List.{slice_range};
 ghost use Rattle.hfs_tree.specs.Leaves.{count_of, offset_of, is_good, fault_in, leaf_fault, row_at, row_place, row_fault, link_in, IsLeaf};
 
 use crate::fault::{Condition, TreeFault};
@@ -22,6 +23,16 @@ pub struct Leaf {
     pub number: u32,
     pub place: u64,
     pub bytes: [u8; 512],
+}
+
+/// The bytes from a place up to another.
+fn part_of(bytes: &[u8], start: usize, end: usize) -> &[u8]
+    requires order { start ≤ end }
+    requires inside { end ≤ length bytes.now }
+    ensures value { result.now ≡ slice_range bytes.now start end }
+    ensures long { length result.now ≡ end - start }
+{
+    &bytes[start..end]
 }
 
 impl Leaf {
@@ -110,7 +121,7 @@ impl Leaf {
     {
         let start = self.offset(row);
         let end = self.offset(row + 1);
-        &self.bytes[start..end]
+        part_of(&self.bytes, start, end)
     }
 
     /// Where in the volume a record is.

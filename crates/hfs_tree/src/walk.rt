@@ -143,18 +143,25 @@ fn read_leaves<D: ForkDisk>(
         };
         let block = (leaf.place / 512) as usize;
         if seen.get(block) {
-            break;
+            return Ok(Chain {
+                leaves,
+                fault: Some(link.fault(Condition::Again)),
+            });
         }
         seen.set(block, true);
         link = leaf.link();
         leaves.push(leaf)?;
     }
-    let fault = if link.node == 0 {
-        None
-    } else {
-        Some(link.fault(Condition::Again))
-    };
-    Ok(Chain { leaves, fault })
+    if link.node == 0 {
+        return Ok(Chain {
+            leaves,
+            fault: None,
+        });
+    }
+    Ok(Chain {
+        leaves,
+        fault: Some(link.fault(Condition::Again)),
+    })
 }
 
 /// Reads the header of a tree, whose extents are given at a place of the volume. It leads to the first leaf.
