@@ -1,5 +1,5 @@
 -- What two calls on a disk learn that are made one after the other.
-use Rattle.std.proofs.Common.{◌≡◌, List, ℕ, refl, ◌∙◌, subst}
+use Rattle.std.proofs.Common.{List, ℕ, refl, ◌∙◌, subst}
 use Rattle.fork_disk.specs.declared.disk.ForkDisk.{Ghosts}
 use Rattle.fork_disk.specs.OnDisk.{KeepsDisk}
 use Rattle.hfs_tree.specs.Reads.{Learns}

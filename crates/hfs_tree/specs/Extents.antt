@@ -1,5 +1,5 @@
 -- Runs of allocation blocks, and where their bytes are.
-use Rattle.std.specs.Prelude.{ℕ, ◌+◌, ◌-◌, ◌*◌, ◌/◌, ◌%◌, nat_lt, if◌then◌else◌, List, [], ◌∷◌, sum_by, Option, None, Some}
+use Rattle.std.specs.Prelude.{ℕ, ◌+◌, ◌-◌, ◌*◌, ◌/◌, ◌%◌, nat_lt, if◌then◌else◌, List, [], ◌∷◌, Option, None, Some}
 use Rattle.std.specs.List.{take_while}
 use Rattle.byteorder.specs.Endian.{big_from}
 use Rattle.hfs_tree.specs.declared.extent.Extent.{Extent}

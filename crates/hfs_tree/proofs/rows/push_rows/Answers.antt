@@ -1,6 +1,6 @@
 use Rattle.std.proofs.Common.{◌≡◌, ◌+◌, ◌-◌, suc, ℕ, ap, ◌∙◌, arith}
 use Rattle.hfs_tree.specs.Leaves.{count_of}
-use Rattle.hfs_tree.specs.Rows.{RowsRead, rows_before, rows_from}
+use Rattle.hfs_tree.specs.Rows.{rows_before, rows_from}
 use Rattle.hfs_tree.proofs.RowsRead.{row_read, row_faults, no_row}
 use Rattle.hfs_tree.proofs.rows.push_rows.Goals as goal
 

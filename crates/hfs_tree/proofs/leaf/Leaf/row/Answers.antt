@@ -1,4 +1,4 @@
-use Rattle.std.proofs.Common.{◌≡◌, length, arith}
+use Rattle.std.proofs.Common.{arith}
 use Rattle.hfs_tree.proofs.Good.{row_within}
 use Rattle.hfs_tree.proofs.leaf.Leaf.row.Goals as goal
 
