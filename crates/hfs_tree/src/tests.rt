@@ -117,6 +117,11 @@ fn says_what_ends_a_chain(rt: HostRuntime) -> Result<(), Fail> {
         3,
         3072,
     );
+    Ok(())
+}
+
+#[test]
+fn says_which_leaf_ends_a_chain(rt: HostRuntime) -> Result<(), Fail> {
     ends_with(
         &rt,
         &read_with(rt.alloc(), 2051, 2)?,
