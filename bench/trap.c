@@ -8,7 +8,7 @@
 #include <stdio.h>
 #include <time.h>
 
-enum { ROUNDS = 40, TRAPS = 500, BASE = 0x100000, LIMIT = 0xE00000, SMALL = 0x100000, FIRST = 52, MOST = 20000 };
+enum { ROUNDS = 40, TRAPS = 500, BASE = 0x100000, LIMIT = 0xE00000, SMALL = 0x100000, FIRST = 52, MOST = 20000, LARGEST = 8388608 };
 
 static uint8_t ram[LIMIT];
 static MhZone zone;
@@ -129,7 +129,7 @@ static int compact(uint32_t mode, uint32_t most) {
     for (int round = 0; round < ROUNDS / 4; round++) {
         if (!is_made(mode, most, 1) || wake(0) != MH_NO_ERR) return 1;
         double start = now();
-        if (mh_compact_mem(&zone, bytes, &number) != MH_NO_ERR) return 1;
+        if (mh_compact_mem(&zone, LARGEST, &number) != MH_NO_ERR) return 1;
         double done = now();
         if (mh_sleep(&zone, &asleep, &memory) != MH_NO_ERR) return 1;
         double end = now();
