@@ -1,5 +1,7 @@
 pub mod Statuses
 pub mod Problems
 pub mod Reading
+pub mod Acts
 pub mod Saving
+pub mod Running
 pub mod Order

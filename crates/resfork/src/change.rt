@@ -1,17 +1,18 @@
 //! Files changed: read whole, changed, and written in their own place or in another.
 
 ghost use Rattle.std.specs.Prelude.{◌≡◌, IfErr, IfOk, IfSome, Ok, true};
+ghost use Rattle.resfork.specs.Acts.{ReadsNothing, WritesNothing};
 ghost use Rattle.resfork.specs.Problems.{IsIdle, IsNotSaved, written_file};
 
+use crate::acts::Acts;
 use crate::asked_change::Target;
 use crate::host::Host;
-use crate::input::read_file;
+use crate::input::read_held;
 use crate::message::{DONE, Problem};
-use crate::save::{OUTPUT, save_to, tell_losses};
+use crate::save::{OUTPUT, Renewal, open_held, renew, save_to};
 use crate::{read, write_text};
-use file_replace::{Held, UnknownFolder};
+use file_replace::Held;
 use fork_bytes::table::Row;
-use fork_disk::Record;
 use fork_edit::change::{NewFile, changed};
 use fork_edit::edit::Edit;
 
@@ -21,15 +22,31 @@ pub fn change(
     target: &Target<'_>,
     from: &[Row<'_>],
     edit: Edit<'_>,
+    acts: &mut Acts,
 ) -> Result<u8, Problem>
-    ensures { IfOk result (λ status. status ≡ DONE) }
+    ensures done { IfOk result (λ status. status ≡ DONE) }
+    ensures dry { target.now.is_dry ≡ true → WritesNothing acts.old.events acts.new.events }
 {
     if target.is_dry || target.output.is_some() {
-        let old = read(host, target.file)?;
-        change_into(host, target, &old, from, edit)
+        change_other(host, target, from, edit, acts)
     } else {
-        change_in_place(host, target, from, edit)
+        change_in_place(host, target, from, edit, acts)
     }
+}
+
+/// Changes what is read of a file, and writes it to another, or only says what would change.
+fn change_other(
+    host: &Host<'_>,
+    target: &Target<'_>,
+    from: &[Row<'_>],
+    edit: Edit<'_>,
+    acts: &mut Acts,
+) -> Result<u8, Problem>
+    ensures done { IfOk result (λ status. status ≡ DONE) }
+    ensures dry { target.now.is_dry ≡ true → WritesNothing acts.old.events acts.new.events }
+{
+    let old = read(host, target.file, acts)?;
+    change_into(host, target, &old, from, edit, acts)
 }
 
 /// Makes a new file with these resources.
@@ -38,14 +55,16 @@ pub fn create(
     target: &Target<'_>,
     from: &[Row<'_>],
     edit: Edit<'_>,
+    acts: &mut Acts,
 ) -> Result<u8, Problem>
-    ensures { IfOk result (λ status. status ≡ DONE) }
+    ensures done { IfOk result (λ status. status ≡ DONE) }
+    ensures dry { target.now.is_dry ≡ true → WritesNothing acts.old.events acts.new.events }
 {
     let target = Target {
         output: target.output.or(Some(target.file)),
         ..*target
     };
-    change_into(host, &target, &[], from, edit)
+    change_into(host, &target, &[], from, edit, acts)
 }
 
 /// Changes a file in its own place. Where nothing changes, it isn't touched.
@@ -54,25 +73,65 @@ fn change_in_place(
     target: &Target<'_>,
     from: &[Row<'_>],
     edit: Edit<'_>,
+    acts: &mut Acts,
 ) -> Result<u8, Problem>
-    ensures { IfOk result (λ status. status ≡ DONE) }
+    ensures done { IfOk result (λ status. status ≡ DONE) }
 {
-    let mut log = Record::new();
-    let held = Held::open(host.rt, target.file, &mut log)?;
-    let old = read_file(host.alloc(), held.file(), host.limit).map_err(Problem::Read)?;
-    let Some(changed) = changed_of(host, &old, from, edit)? else {
-        return Ok(DONE);
+    let held = open_held(host, target.file, acts)?;
+    change_held(host, target, held, from, edit, acts)
+}
+
+/// Changes a file that is held.
+fn change_held(
+    host: &Host<'_>,
+    target: &Target<'_>,
+    held: Held,
+    from: &[Row<'_>],
+    edit: Edit<'_>,
+    acts: &mut Acts,
+) -> Result<u8, Problem>
+    ensures done { IfOk result (λ status. status ≡ DONE) }
+{
+    let old = read_held(host, held.file(), acts)?;
+    renew_by(host, target, held, &old, (from, edit), acts)
+}
+
+/// Changes a file that is held and has these bytes, by an edit to which resources are copied from these rows.
+fn renew_by(
+    host: &Host<'_>,
+    target: &Target<'_>,
+    held: Held,
+    old: &[u8],
+    change: (&[Row<'_>], Edit<'_>),
+    acts: &mut Acts,
+) -> Result<u8, Problem>
+    ensures done { IfOk result (λ status. status ≡ DONE) }
+{
+    let (from, edit) = change;
+    match changed_of(host, old, from, edit)? {
+        Some(changed) => replace(host, target, held, old, &changed, acts),
+        None => Ok(DONE),
+    }
+}
+
+/// Puts a changed file in the place of one that is held and has these bytes, and says what changed.
+fn replace(
+    host: &Host<'_>,
+    target: &Target<'_>,
+    held: Held,
+    old: &[u8],
+    changed: &NewFile,
+    acts: &mut Acts,
+) -> Result<u8, Problem>
+    ensures done { IfOk result (λ status. status ≡ DONE) }
+{
+    let renewal = Renewal {
+        old,
+        new: &changed.file,
+        keeps_old: target.keeps_old,
     };
-    let prepared = held.prepare::<UnknownFolder, UnknownFolder>(
-        host.rt,
-        &old,
-        &changed.file,
-        target.keeps_old,
-        &mut log,
-    )?;
-    tell_losses(host, target.file, prepared.losses());
-    prepared.put(&mut log)?;
-    say(host, target, &changed.told).map_err(Problem::after_change)
+    renew(host, target.file, held, &renewal, acts)?;
+    say_after(host, target, &changed.told, acts)
 }
 
 /// What becomes of a file, or None where nothing changes.
@@ -83,7 +142,10 @@ fn changed_of(
     edit: Edit<'_>,
 ) -> Result<Option<NewFile>, Problem> {
     let alloc = host.alloc();
-    changed(alloc, old, from, edit).map_err(|fault| Problem::of_change(alloc, fault, old))
+    match changed(alloc, old, from, edit) {
+        Ok(changed) => Ok(changed),
+        Err(fault) => Err(Problem::of_change(alloc, fault, old)),
+    }
 }
 
 /// Writes bytes with changes to another file, or only says what would change.
@@ -93,19 +155,32 @@ fn change_into(
     old: &[u8],
     from: &[Row<'_>],
     edit: Edit<'_>,
+    acts: &mut Acts,
 ) -> Result<u8, Problem>
-    ensures { IfOk result (λ status. status ≡ DONE) }
+    ensures done { IfOk result (λ status. status ≡ DONE) }
+    ensures dry { target.now.is_dry ≡ true → WritesNothing acts.old.events acts.new.events }
 {
     match changed_of(host, old, from, edit)? {
-        Some(changed) => {
-            write_output(host, target, &changed.file)?;
-            say(host, target, &changed.told)
-        }
+        Some(changed) => write_changed(host, target, &changed, acts),
         None => {
-            write_output(host, target, old)?;
+            write_output(host, target, old, acts)?;
             Ok(DONE)
         }
     }
+}
+
+/// Writes a changed file, and says what changed.
+fn write_changed(
+    host: &Host<'_>,
+    target: &Target<'_>,
+    changed: &NewFile,
+    acts: &mut Acts,
+) -> Result<u8, Problem>
+    ensures done { IfOk result (λ status. status ≡ DONE) }
+    ensures dry { target.now.is_dry ≡ true → WritesNothing acts.old.events acts.new.events }
+{
+    write_output(host, target, &changed.file, acts)?;
+    say(host, target, &changed.told, acts)
 }
 
 /// The file that is written: another one, or the one that is read.
@@ -116,23 +191,50 @@ pub fn written_file<'a>(target: &Target<'a>) -> &'a str
 }
 
 /// Writes the file that a command names, unless it only says what it would do.
-pub fn write_output(host: &Host<'_>, target: &Target<'_>, bytes: &[u8]) -> Result<(), Problem>
-    ensures idle { IsIdle target.now → result ≡ Ok tt }
+pub fn write_output(
+    host: &Host<'_>,
+    target: &Target<'_>,
+    bytes: &[u8],
+    acts: &mut Acts,
+) -> Result<(), Problem>
+    ensures idle { IsIdle target.now → (result ≡ Ok tt) × (acts.new.events ≡ acts.old.events) }
+    ensures dry { target.now.is_dry ≡ true → WritesNothing acts.old.events acts.new.events }
     ensures cause { IfErr result (λ why. IfSome target.now.output (λ path. IsNotSaved path.now why)) }
 {
     match target.output {
-        Some(output) if !target.is_dry => save_to(host, output, bytes),
+        Some(output) if !target.is_dry => save_to(host, output, bytes, acts),
         _ => Ok(()),
     }
 }
 
 /// Says what was done, or would be, unless the file itself goes to the standard output.
-pub fn say(host: &Host<'_>, target: &Target<'_>, text: &String) -> Result<u8, Problem>
+pub fn say(
+    host: &Host<'_>,
+    target: &Target<'_>,
+    text: &String,
+    acts: &mut Acts,
+) -> Result<u8, Problem>
     ensures done { IfOk result (λ status. status ≡ DONE) }
-    ensures quiet { target.now.is_quiet ≡ true → result ≡ Ok DONE }
+    ensures quiet { target.now.is_quiet ≡ true → (result ≡ Ok DONE) × (acts.new.events ≡ acts.old.events) }
+    ensures reads { ReadsNothing acts.old.events acts.new.events }
 {
     if !target.is_quiet && (target.is_dry || target.output != Some(OUTPUT)) {
-        write_text(host, text)?;
+        write_text(host, text, acts)?;
     }
     Ok(DONE)
+}
+
+/// The same, where the file is changed already.
+fn say_after(
+    host: &Host<'_>,
+    target: &Target<'_>,
+    text: &String,
+    acts: &mut Acts,
+) -> Result<u8, Problem>
+    ensures done { IfOk result (λ status. status ≡ DONE) }
+{
+    match say(host, target, text, acts) {
+        Ok(status) => Ok(status),
+        Err(problem) => Err(problem.after_change()),
+    }
 }

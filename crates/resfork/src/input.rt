@@ -1,13 +1,20 @@
 //! The bytes of a file.
 
-ghost use Rattle.std.specs.Prelude.{◌≡◌, ◌≢◌, ◌<◌, ◌≤◌, ◌^◌, Err, IfErr, IfOk, IfSome, length};
+ghost use Rattle.std.specs.Prelude.{◌≡◌, ◌≢◌, ◌∷◌, ◌<◌, ◌≤◌, ◌^◌, Err, IfErr, IfOk, IfSome, length};
 ghost use Rattle.std.specs.IoError.{error_kind};
-ghost use Rattle.resfork.specs.Reading.{IsNotRead};
+ghost use Rattle.resfork.specs.Acts.{Reads, ReadsHeld, ReadsOnly, ReadsOther, bytes_read};
+ghost use Rattle.resfork.specs.Reading.{IsNotRead, IsToldUnread};
+ghost use Rattle.resfork.specs.declared.acts.Act.TheVariants as act;
 
+use crate::INPUT;
+use crate::acts::{Acts, note_held, note_read};
+use crate::host::Host;
+use crate::message::Problem;
+use path_text::FileName;
 use std::alloc::Global;
 use std::fs::File;
-use std::io;
 use std::io::{ErrorKind, Read};
+use std::{fs, io};
 use thiserror::Error;
 
 /// Why the bytes of a file aren't read.
@@ -65,11 +72,74 @@ pub fn read_within<R: Read + Drop>(
 
 /// All bytes of a file, if they are no more than these, into room for as many as it has and one more, for the read that
 /// finds the end.
-pub fn read_file(alloc: Global, file: &File, most: u64) -> Result<Vec<u8>, NotRead> {
+fn read_file(alloc: Global, file: &File, most: u64) -> Result<Vec<u8>, NotRead> {
     let found = file.metadata()?;
     if found.is_file() && found.len() > most {
         return Err(NotRead::TooLong(most));
     }
     let expected = (found.len() as usize).saturating_add(1);
     read_within(alloc, file, expected, most)
+}
+
+/// The bytes of what this path leads to, or of the standard input, if they aren't too many.
+fn read_path(host: &Host<'_>, path: &str) -> Result<Vec<u8>, NotRead> {
+    if path == INPUT {
+        return read_within(host.alloc(), host.rt.stdin(), 0, host.limit);
+    }
+    read_file(host.alloc(), &fs::open(host.rt, path)?, host.limit)
+}
+
+/// The same, noted.
+pub fn read_whole(host: &Host<'_>, path: &str, acts: &mut Acts) -> Result<Vec<u8>, NotRead>
+    ensures notes { acts.new.events ≡ act.Read path.now (bytes_read result) ∷ acts.old.events }
+    ensures quiet { ReadsOnly path.now acts.old.events acts.new.events }
+{
+    let read = read_path(host, path);
+    note_read(acts, path, &read);
+    read
+}
+
+/// The bytes of the file of this name, or of the standard input.
+pub fn read(host: &Host<'_>, file: &str, acts: &mut Acts) -> Result<Vec<u8>, Problem>
+    ensures reads { Reads file.now result acts.old.events acts.new.events }
+    ensures quiet { ReadsOnly file.now acts.old.events acts.new.events }
+{
+    match read_whole(host, file, acts) {
+        Ok(bytes) => Ok(bytes),
+        Err(error) => Err(Problem::Read(error)),
+    }
+}
+
+/// The bytes of a file that belongs to another.
+pub fn read_other(host: &Host<'_>, path: &str, acts: &mut Acts) -> Result<Vec<u8>, Problem>
+    ensures reads { ReadsOther path.now result acts.old.events acts.new.events }
+    ensures quiet { ReadsOnly path.now acts.old.events acts.new.events }
+{
+    match read_whole(host, path, acts) {
+        Ok(bytes) => Ok(bytes),
+        Err(error) => Err(unread(host, path, error)),
+    }
+}
+
+/// The bytes of a file that is held.
+pub fn read_held(host: &Host<'_>, file: &File, acts: &mut Acts) -> Result<Vec<u8>, Problem>
+    ensures reads { ReadsHeld file.now result acts.old.events acts.new.events }
+{
+    let read = read_file(host.alloc(), file, host.limit);
+    note_held(acts, file, &read);
+    match read {
+        Ok(bytes) => Ok(bytes),
+        Err(error) => Err(Problem::Read(error)),
+    }
+}
+
+/// That a file which belongs to another isn't read.
+pub fn unread(host: &Host<'_>, path: &str, error: NotRead) -> Problem
+    ensures { IsToldUnread result }
+{
+    let path = FileName(path);
+    match format!(in host.alloc(); "{path}") {
+        Ok(path) => Problem::Unread { path, error },
+        Err(_) => Problem::HostFull,
+    }
 }

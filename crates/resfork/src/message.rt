@@ -159,6 +159,11 @@ impl From<AllocError> for Problem {
 }
 
 impl From<HostFull> for Problem {
+    ghost use Rattle.std.specs.Prelude.{◌≡◌, Some};
+    ghost use Rattle.resfork.specs.declared.message.Problem.TheVariants as problem;
+
+    ghost from_gives = { λ _ why. why ≡ problem.HostFull };
+
     fn from(_: HostFull) -> Problem {
         Problem::HostFull
     }

@@ -1,16 +1,20 @@
 //! Resources as a text, and the fork of a text; and the fork of a folder to which resources were unpacked.
 
-ghost use Rattle.std.specs.Prelude.{◌≡◌, IfOk};
+ghost use Rattle.std.specs.Prelude.{◌≡◌, ◌∷◌, IfOk, true};
+ghost use Rattle.resfork.specs.Acts.{ReadsOnly, WritesNothing, bytes_read};
+ghost use Rattle.resfork.specs.Running.{is_dry_place};
+ghost use Rattle.resfork.specs.declared.acts.Act.TheVariants as act;
 
+use crate::acts::{Acts, look_at, note_front, print};
 use crate::asked_change::{Copying, Packing, Place, Rezzing, Target};
 use crate::change::{say, write_output, written_file};
 use crate::host::Host;
-use crate::input::{NotRead, read_all};
+use crate::input::{NotRead, read, read_all, read_other, unread};
 use crate::message::{DONE, Problem};
 use crate::save::OUTPUT;
 use crate::unlisted::with_unlisted;
 use crate::work::{Failed, copy_rows, file_at_fault, of_file};
-use crate::{TableUse, check_kinds, read, read_other, read_whole, unread, use_table};
+use crate::{TableUse, check_kinds, use_table};
 use fork_bytes::layout::MAX_BYTES;
 use fork_bytes::table::{Row, Table};
 use fork_change::{Choice, Collision, Refusal};
@@ -27,7 +31,7 @@ use path_text::FileName;
 use std::alloc::{AllocError, Global};
 use std::collections::{BTreeMap, BTreeSet};
 use std::fs;
-use std::io::{Error, ErrorKind, Read, Write};
+use std::io::{Error, ErrorKind, Read};
 
 /// The file that says what isn't in the files of the resources.
 pub const MANIFEST: &str = "resources.json";
@@ -43,31 +47,48 @@ type Files = BTreeMap<String, Vec<u8>>;
 struct Derez<'a>(&'a [ResType]);
 
 impl TableUse for Derez<'_> {
-    fn done(&self, host: &Host<'_>, _bytes: &[u8], table: &Table<'_>) -> Result<u8, Problem> {
+    ghost use Rattle.std.specs.Prelude.{⊤};
+
+    ghost only_reads = { λ _. ⊤ };
+
+    fn done(
+        &self,
+        host: &Host<'_>,
+        _bytes: &[u8],
+        table: &Table<'_>,
+        acts: &mut Acts,
+    ) -> Result<u8, Problem> {
         check_kinds(self.0, table.rows.as_slice())?;
         let text = derez(host.alloc(), self.0, table)?;
-        host.output().write_all(&text).map_err(Problem::Print)?;
+        print(host, &text, acts)?;
         Ok(DONE)
     }
 }
 
 /// Writes resources of a file as a text.
-pub fn derez_file(host: &Host<'_>, file: &str, kinds: &[ResType]) -> Result<u8, Problem>
-    ensures { IfOk result (λ status. status ≡ DONE) }
+pub fn derez_file(
+    host: &Host<'_>,
+    file: &str,
+    kinds: &[ResType],
+    acts: &mut Acts,
+) -> Result<u8, Problem>
+    ensures done { IfOk result (λ status. status ≡ DONE) }
+    ensures quiet { ReadsOnly file.now acts.old.events acts.new.events }
 {
-    use_table(host, file, &Derez(kinds))
+    use_table(host, file, &Derez(kinds), acts)
 }
 
 /// Writes a fork of a text, or puts its resources into a file.
-pub fn rez_file<'a>(host: &Host<'_>, asked: Rezzing<'a>) -> Result<u8, Failed<'a>>
-    ensures { IfOk result (λ status. status ≡ DONE) }
+pub fn rez_file<'a>(host: &Host<'_>, asked: Rezzing<'a>, acts: &mut Acts) -> Result<u8, Failed<'a>>
+    ensures done { IfOk result (λ status. status ≡ DONE) }
+    ensures dry { is_dry_place asked.entry.place ≡ true → WritesNothing acts.old.events acts.new.events }
 {
     let alloc = host.alloc();
     let source = asked.text;
-    let text = of_file(source, read(host, source))?;
+    let text = of_file(source, read(host, source, acts))?;
     let made = of_file(source, rez(alloc, &text).map_err(Problem::Rez))?;
     let table = of_file(source, made.table(alloc).map_err(Problem::from))?;
-    deliver(host, source, asked.place, None, &table)
+    deliver(host, source, asked.place, None, &table, acts)
 }
 
 /// A file that another one is to be like, and its bytes.
@@ -84,8 +105,10 @@ fn deliver<'a>(
     place: Place<'a>,
     like: Option<Like<'a, '_>>,
     table: &Table<'_>,
+    acts: &mut Acts,
 ) -> Result<u8, Failed<'a>>
-    ensures { IfOk result (λ status. status ≡ DONE) }
+    ensures done { IfOk result (λ status. status ≡ DONE) }
+    ensures dry { is_dry_place place.entry ≡ true → WritesNothing acts.old.events acts.new.events }
 {
     match place {
         Place::New { target, is_forced } => {
@@ -93,28 +116,39 @@ fn deliver<'a>(
                 Some(like) => like.bytes,
                 None => &[],
             };
-            write_table(host, &target, is_forced, bytes, table).map_err(|problem| Failed {
-                file: file_at_fault(like.map(|like| like.name), source, &problem),
-                problem,
-            })
+            match write_table(host, &target, is_forced, bytes, table, acts) {
+                Ok(status) => Ok(status),
+                Err(problem) => Err(Failed {
+                    file: file_at_fault(like.map(|like| like.name), source, &problem),
+                    problem,
+                }),
+            }
         }
         Place::Into {
             target,
             on_collision,
-        } => put_rows(host, source, target, on_collision, table.rows.as_slice()),
+        } => put_rows(
+            host,
+            (source, target),
+            on_collision,
+            table.rows.as_slice(),
+            acts,
+        ),
     }
 }
 
 /// Puts rows, of which there are some, into a file that is there.
 fn put_rows<'a>(
     host: &Host<'_>,
-    source: &'a str,
-    target: Target<'a>,
+    ends: (&'a str, Target<'a>),
     on_collision: Collision,
     rows: &[Row<'_>],
+    acts: &mut Acts,
 ) -> Result<u8, Failed<'a>>
-    ensures { IfOk result (λ status. status ≡ DONE) }
+    ensures done { IfOk result (λ status. status ≡ DONE) }
+    ensures dry { ends.entry.1.is_dry ≡ true → WritesNothing acts.old.events acts.new.events }
 {
+    let (source, target) = ends;
     if rows.is_empty() {
         return Err(Failed {
             file: source,
@@ -134,7 +168,10 @@ fn put_rows<'a>(
         on_collision,
         target,
     };
-    copy_rows(host, &asked, rows).map_err(with_advice)
+    match copy_rows(host, &asked, rows, acts) {
+        Ok(status) => Ok(status),
+        Err(failed) => Err(with_advice(failed)),
+    }
 }
 
 /// What is in the way, with what can be done where a resource is there already.
@@ -158,25 +195,62 @@ fn is_container(bytes: &[u8]) -> bool {
 
 /// Refuses to write a new file with a table over a file that has more than a resource fork, unless the new one has all
 /// that, too; or that has resources which the new one lacks, or that can't be looked at.
-fn check_free(host: &Host<'_>, name: &str, table: &Table<'_>, new: &[u8]) -> Result<(), Problem> {
-    match fs::metadata(host.rt, name) {
-        Ok(found) if found.is_file() && name != OUTPUT => {}
-        _ => return Ok(()),
+fn check_free(
+    host: &Host<'_>,
+    name: &str,
+    table: &Table<'_>,
+    new: &[u8],
+    acts: &mut Acts,
+) -> Result<(), Problem>
+    ensures quiet { WritesNothing acts.old.events acts.new.events }
+{
+    if name == OUTPUT {
+        return Ok(());
     }
-    let bytes = match read_whole(host, name) {
-        Ok(bytes) => bytes,
-        Err(error) => return unread(host, name, error),
-    };
+    match look_at(host, name, acts) {
+        Ok(Some(found)) if found.is_regular() => {
+            let bytes = read_other(host, name, acts)?;
+            check_bytes(host, name, &bytes, table, new)
+        }
+        _ => Ok(()),
+    }
+}
+
+/// The same of a file with these bytes.
+fn check_bytes(
+    host: &Host<'_>,
+    name: &str,
+    bytes: &[u8],
+    table: &Table<'_>,
+    new: &[u8],
+) -> Result<(), Problem> {
     let alloc = host.alloc();
-    if is_container(&bytes) && !keeps_others(alloc, &bytes, table, new)? {
+    if is_container(bytes) && !keeps_others(alloc, bytes, table, new)? {
         return Err(Problem::Container(String::from_str(alloc, name)?));
     }
     let path = String::from_str(alloc, name)?;
-    match lost_of(alloc, &bytes, table.rows.as_slice())? {
+    match lost_of(alloc, bytes, table.rows.as_slice())? {
         Lost::Nothing => Ok(()),
         Lost::Resources(count) => Err(Problem::Lacking { path, count }),
         Lost::Unknown => Err(Problem::NotFork(path)),
     }
+}
+
+/// The same, unless the file may lose what it has.
+fn check_unless(
+    host: &Host<'_>,
+    is_forced: bool,
+    name: &str,
+    table: &Table<'_>,
+    new: &[u8],
+    acts: &mut Acts,
+) -> Result<(), Problem>
+    ensures quiet { WritesNothing acts.old.events acts.new.events }
+{
+    if is_forced {
+        return Ok(());
+    }
+    check_free(host, name, table, new, acts)
 }
 
 /// The first row that is apart from one before it of its type.
@@ -212,22 +286,52 @@ fn write_table(
     is_forced: bool,
     like: &[u8],
     table: &Table<'_>,
+    acts: &mut Acts,
 ) -> Result<u8, Problem>
-    ensures { IfOk result (λ status. status ≡ DONE) }
+    ensures done { IfOk result (λ status. status ≡ DONE) }
+    ensures dry { target.now.is_dry ≡ true → WritesNothing acts.old.events acts.new.events }
 {
     let alloc = host.alloc();
-    let name = written_file(target);
     check_together(alloc, table.rows.as_slice())?;
-    let file = with_table(alloc, like, table).map_err(Problem::Write)?;
-    if !is_forced {
-        check_free(host, name, table, &file)?;
+    match with_table(alloc, like, table) {
+        Ok(file) => write_new(host, target, is_forced, table, &file, acts),
+        Err(fault) => Err(Problem::Write(fault)),
     }
-    write_output(host, target, &file)?;
+}
+
+/// Writes a new file with a table. A file that is there loses nothing, unless that is forced.
+fn write_new(
+    host: &Host<'_>,
+    target: &Target<'_>,
+    is_forced: bool,
+    table: &Table<'_>,
+    file: &[u8],
+    acts: &mut Acts,
+) -> Result<u8, Problem>
+    ensures done { IfOk result (λ status. status ≡ DONE) }
+    ensures dry { target.now.is_dry ≡ true → WritesNothing acts.old.events acts.new.events }
+{
+    check_unless(host, is_forced, written_file(target), table, file, acts)?;
     let count = table.rows.as_slice().len();
+    write_and_tell(host, target, count, file, acts)
+}
+
+/// Writes a new file of so many resources, and says so.
+fn write_and_tell(
+    host: &Host<'_>,
+    target: &Target<'_>,
+    count: usize,
+    file: &[u8],
+    acts: &mut Acts,
+) -> Result<u8, Problem>
+    ensures done { IfOk result (λ status. status ≡ DONE) }
+    ensures dry { target.now.is_dry ≡ true → WritesNothing acts.old.events acts.new.events }
+{
+    write_output(host, target, file, acts)?;
     let length = file.len();
-    let name = FileName(name);
-    let text = format!(in alloc; "{name}: {count} resources, {length} bytes\n")?;
-    say(host, target, &text)
+    let name = FileName(written_file(target));
+    let text = format!(in host.alloc(); "{name}: {count} resources, {length} bytes\n")?;
+    say(host, target, &text, acts)
 }
 
 /// The bytes of the file of a path, or of its beginning where they are more than so many. What is no file, as a pipe, is
@@ -244,6 +348,16 @@ fn read_beginning(host: &Host<'_>, path: &str, most: u64) -> Result<Vec<u8>, Not
     Ok(read_all(host.alloc(), file.take(most), 0)?)
 }
 
+/// The same, noted.
+fn read_front(host: &Host<'_>, path: &str, most: u64, acts: &mut Acts) -> Result<Vec<u8>, NotRead>
+    ensures notes { acts.new.events ≡ act.ReadFront path.now most (bytes_read result) ∷ acts.old.events }
+    ensures quiet { ReadsOnly path.now acts.old.events acts.new.events }
+{
+    let read = read_beginning(host, path, most);
+    note_front(acts, path, most, &read);
+    read
+}
+
 /// Reads a file in a folder into these files, by its path there. The result is how many bytes it has; one more than so
 /// many where they are more.
 fn add_file(
@@ -252,12 +366,15 @@ fn add_file(
     folder: &str,
     file: &str,
     most: usize,
-) -> Result<usize, Problem> {
+    acts: &mut Acts,
+) -> Result<usize, Problem>
+    ensures quiet { WritesNothing acts.old.events acts.new.events }
+{
     let alloc = host.alloc();
     let path = format!(in alloc; "{folder}/{file}")?;
-    let bytes = match read_beginning(host, path.as_str(), (most as u64).saturating_add(1)) {
+    let bytes = match read_front(host, path.as_str(), (most as u64).saturating_add(1), acts) {
         Ok(bytes) => bytes,
-        Err(error) => return unread(host, path.as_str(), error),
+        Err(error) => return Err(unread(host, path.as_str(), error)),
     };
     let length = bytes.len();
     files
@@ -268,7 +385,14 @@ fn add_file(
 
 /// The files of resources in a folder, by their paths below it. Each is read once, and no more of them than a fork
 /// holds: resources that have more bytes together are refused.
-fn read_files(host: &Host<'_>, folder: &str, entries: &[Entry]) -> Result<Files, Problem> {
+fn read_files(
+    host: &Host<'_>,
+    folder: &str,
+    entries: &[Entry],
+    acts: &mut Acts,
+) -> Result<Files, Problem>
+    ensures quiet { WritesNothing acts.old.events acts.new.events }
+{
     let mut files = Files::new(host.alloc());
     let mut left = MOST_BYTES;
     for entry in entries {
@@ -276,7 +400,7 @@ fn read_files(host: &Host<'_>, folder: &str, entries: &[Entry]) -> Result<Files,
         let known = files.get(file).map(|bytes| bytes.len());
         let length = match known {
             Some(length) => length,
-            None => add_file(host, &mut files, folder, file, left)?,
+            None => add_file(host, &mut files, folder, file, left, acts)?,
         };
         let Some(rest) = left.checked_sub(length) else {
             return Err(Problem::Write(NotWritten::TooBig));
@@ -287,10 +411,12 @@ fn read_files(host: &Host<'_>, folder: &str, entries: &[Entry]) -> Result<Files,
 }
 
 /// What `resources.json` says of a folder.
-fn packing_of(host: &Host<'_>, folder: &str) -> Result<Manifest, Problem> {
+fn packing_of(host: &Host<'_>, folder: &str, acts: &mut Acts) -> Result<Manifest, Problem>
+    ensures quiet { WritesNothing acts.old.events acts.new.events }
+{
     let alloc = host.alloc();
     let path = format!(in alloc; "{folder}/{MANIFEST}")?;
-    let text = read_other(host, path.as_str())?;
+    let text = read_other(host, path.as_str(), acts)?;
     let Ok(text) = str::from_utf8(&text) else {
         let path = FileName(path.as_str());
         return Err(Problem::NoText(format!(in alloc; "{path}")?));
@@ -298,24 +424,40 @@ fn packing_of(host: &Host<'_>, folder: &str) -> Result<Manifest, Problem> {
     manifest_of(alloc, text).map_err(Problem::Pack)
 }
 
+/// The files of resources in a folder, and what `resources.json` says of them. Files that it doesn't name are added, or
+/// refused.
+fn packing_in(
+    host: &Host<'_>,
+    folder: &str,
+    adds: bool,
+    acts: &mut Acts,
+) -> Result<(Manifest, Files), Problem>
+    ensures quiet { WritesNothing acts.old.events acts.new.events }
+{
+    let packing = packing_of(host, folder, acts)?;
+    let packing = with_unlisted(host, folder, packing, adds, acts)?;
+    let files = read_files(host, folder, packing.entries.as_slice(), acts)?;
+    Ok((packing, files))
+}
+
 /// Writes a fork of the files in a folder and what `resources.json` says of them, in a file like this one; or puts its
-/// resources into a file. Files that it doesn't name are added, or refused.
+/// resources into a file.
 pub fn pack_folder<'a>(
     host: &Host<'_>,
     asked: Packing<'a>,
     like: Option<Like<'a, '_>>,
+    acts: &mut Acts,
 ) -> Result<u8, Failed<'a>>
-    ensures { IfOk result (λ status. status ≡ DONE) }
+    ensures done { IfOk result (λ status. status ≡ DONE) }
+    ensures dry { is_dry_place asked.entry.place ≡ true → WritesNothing acts.old.events acts.new.events }
 {
     let folder = asked.folder;
-    let packing = of_file(folder, packing_of(host, folder))?;
-    let packing = of_file(folder, with_unlisted(host, folder, packing, asked.adds))?;
-    let files = of_file(folder, read_files(host, folder, packing.entries.as_slice()))?;
+    let (packing, files) = of_file(folder, packing_in(host, folder, asked.adds, acts))?;
     let rows = packed(host.alloc(), packing.entries.as_slice(), &files);
     let table = Table {
         rows: of_file(folder, rows.map_err(Problem::Pack))?,
         extra: packing.extra,
         map_attributes: packing.map_attributes,
     };
-    deliver(host, folder, asked.place, like, &table)
+    deliver(host, folder, asked.place, like, &table, acts)
 }

@@ -3,14 +3,15 @@
 ghost use Rattle.std.specs.Prelude.{◌≡◌, ◌≢◌, IfErr, IfOk, codes};
 ghost use Rattle.resfork.specs.Problems.{IsNotSaved};
 
+use crate::acts::{Acts, note_saved, print};
 use crate::host::Host;
 use crate::message::Problem;
 use file_replace::{
-    Destination, Difference, Losses, NotBoth, NotReplaced, Prepared, UnknownFolder, put_both,
+    Destination, Difference, Held, HeldCalls, Losses, NotBoth, NotReplaced, Prepared,
+    UnknownFolder, put_both,
 };
-use fork_disk::Record;
 use path_text::FileName;
-use std::io::{IsTerminal, Write};
+use std::io::IsTerminal;
 use std::path::PathBuf;
 
 /// The word for the standard output, in place of a file's name.
@@ -36,7 +37,7 @@ pub enum Ready<'a> {
 /// Why the file of this path isn't written.
 fn not_saved(host: &Host<'_>, path: &str, error: NotReplaced) -> Problem
     requires { path.now ≢ codes "-" }
-    ensures { IsNotSaved path.now result }
+    ensures saved { IsNotSaved path.now result }
 {
     match String::from_str(host.alloc(), path) {
         Ok(path) => Problem::Output { path, error },
@@ -49,10 +50,12 @@ fn prepared<'a>(
     host: &Host<'a>,
     path: &str,
     bytes: &'a [u8],
+    log: &mut HeldCalls,
 ) -> Result<Prepared<'a, UnknownFolder>, NotReplaced> {
-    let mut log = Record::new();
-    let destination = Destination::open(host.rt, path, &mut log)?;
-    destination.prepare(host.rt, bytes, &mut log)
+    match Destination::open(host.rt, path, log) {
+        Ok(destination) => destination.prepare(host.rt, bytes, log),
+        Err(refusal) => Err(refusal),
+    }
 }
 
 /// Says that a user or a group loses a file.
@@ -75,12 +78,79 @@ pub fn tell_losses(host: &Host<'_>, path: &str, losses: Losses) {
     tell_changed(host, path, "group", losses.group);
 }
 
+/// New bytes in the place of a file's old ones, and whether these are kept beside it.
+#[derive(Clone, Copy)]
+pub struct Renewal<'a> {
+    pub old: &'a [u8],
+    pub new: &'a [u8],
+    pub keeps_old: bool,
+}
+
+/// Opens a regular file that is to be replaced, and locks it.
+pub fn open_held(host: &Host<'_>, path: &str, acts: &mut Acts) -> Result<Held, Problem> {
+    let mut log = HeldCalls::new();
+    let held = Held::open(host.rt, path, &mut log);
+    note_saved(acts, &log);
+    match held {
+        Ok(held) => Ok(held),
+        Err(refusal) => Err(Problem::Replace(refusal)),
+    }
+}
+
+/// Puts new bytes in the place of the old ones of a file that is held.
+fn renewed(
+    host: &Host<'_>,
+    path: &str,
+    held: Held,
+    change: &Renewal<'_>,
+    log: &mut HeldCalls,
+) -> Result<(), NotReplaced> {
+    match held.prepare::<UnknownFolder, UnknownFolder>(
+        host.rt,
+        change.old,
+        change.new,
+        change.keeps_old,
+        log,
+    ) {
+        Ok(prepared) => {
+            tell_losses(host, path, prepared.losses());
+            match prepared.put(log) {
+                Ok(_) => Ok(()),
+                Err(refusal) => Err(refusal),
+            }
+        }
+        Err(refusal) => Err(refusal),
+    }
+}
+
+/// Puts new bytes in the place of the old ones of a file that is held, and says what it loses by that.
+pub fn renew(
+    host: &Host<'_>,
+    path: &str,
+    held: Held,
+    change: &Renewal<'_>,
+    acts: &mut Acts,
+) -> Result<(), Problem> {
+    let mut log = HeldCalls::new();
+    let done = renewed(host, path, held, change, &mut log);
+    note_saved(acts, &log);
+    match done {
+        Ok(()) => Ok(()),
+        Err(refusal) => Err(Problem::Replace(refusal)),
+    }
+}
+
 impl<'a> Ready<'a> {
     ghost use Rattle.resfork.specs.Saving.{ready_path};
 
     /// Makes a file of these bytes beside the path, and says what the old file has that it hasn't. The standard output
     /// must be no terminal.
-    pub fn new(host: &Host<'a>, path: &'a str, bytes: &'a [u8]) -> Result<Ready<'a>, Problem>
+    pub fn new(
+        host: &Host<'a>,
+        path: &'a str,
+        bytes: &'a [u8],
+        acts: &mut Acts,
+    ) -> Result<Ready<'a>, Problem>
         ensures path { IfOk result (λ ready. ready_path ready ≡ path.now) }
         ensures cause { IfErr result (IsNotSaved path.now) }
     {
@@ -90,7 +160,24 @@ impl<'a> Ready<'a> {
             }
             return Ok(Ready::Output(bytes));
         }
-        match prepared(host, path, bytes) {
+        Ready::file(host, path, bytes, acts)
+    }
+
+    /// The same of what is a file.
+    fn file(
+        host: &Host<'a>,
+        path: &'a str,
+        bytes: &'a [u8],
+        acts: &mut Acts,
+    ) -> Result<Ready<'a>, Problem>
+        requires { path.now ≢ codes "-" }
+        ensures path { IfOk result (λ ready. ready_path ready ≡ path.now) }
+        ensures cause { IfErr result (IsNotSaved path.now) }
+    {
+        let mut log = HeldCalls::new();
+        let prepared = prepared(host, path, bytes, &mut log);
+        note_saved(acts, &log);
+        match prepared {
             Ok(prepared) => {
                 tell_losses(host, path, prepared.losses());
                 Ok(Ready::File(ReadyFile { path, prepared }))
@@ -100,15 +187,28 @@ impl<'a> Ready<'a> {
     }
 
     /// Puts the file at its path, which has what it had until then; or writes the bytes.
-    pub fn put(self, host: &Host<'_>) -> Result<(), Problem>
-        ensures { IfErr result (IsNotSaved (ready_path self.entry)) }
+    pub fn put(self, host: &Host<'_>, acts: &mut Acts) -> Result<(), Problem>
+        ensures cause { IfErr result (IsNotSaved (ready_path self.entry)) }
     {
         match self {
-            Ready::Output(bytes) => host.output().write_all(bytes).map_err(Problem::Print),
-            Ready::File(ReadyFile { path, prepared }) => match prepared.put(&mut Record::new()) {
-                Ok(_) => Ok(()),
-                Err(error) => Err(not_saved(host, path, error)),
-            },
+            Ready::Output(bytes) => print(host, bytes, acts),
+            Ready::File(file) => file.put(host, acts),
+        }
+    }
+}
+
+impl ReadyFile<'_> {
+    /// Puts the file at its path.
+    fn put(self, host: &Host<'_>, acts: &mut Acts) -> Result<(), Problem>
+        ensures cause { IfErr result (IsNotSaved self.entry.path.now) }
+    {
+        let ReadyFile { path, prepared } = self;
+        let mut log = HeldCalls::new();
+        let done = prepared.put(&mut log);
+        note_saved(acts, &log);
+        match done {
+            Ok(_) => Ok(()),
+            Err(error) => Err(not_saved(host, path, error)),
         }
     }
 }
@@ -122,44 +222,72 @@ fn tell_left(host: &Host<'_>, path: &str, left: Option<PathBuf>) {
     }
 }
 
+/// Why one of the files at two paths wasn't put, and that the other is left beside, where it is.
+fn not_both(host: &Host<'_>, first: &str, second: &str, why: NotBoth) -> Problem
+    requires first { first.now ≢ codes "-" }
+    requires second { second.now ≢ codes "-" }
+{
+    match why {
+        NotBoth::First { refusal, left } => {
+            tell_left(host, second, left);
+            not_saved(host, first, refusal)
+        }
+        NotBoth::Second(refusal) => not_saved(host, second, refusal),
+    }
+}
+
 /// Puts two files, the second one only once the first was put for good.
-fn put_files(host: &Host<'_>, first: ReadyFile<'_>, second: ReadyFile<'_>) -> Result<(), Problem> {
+fn put_files(
+    host: &Host<'_>,
+    first: ReadyFile<'_>,
+    second: ReadyFile<'_>,
+    acts: &mut Acts,
+) -> Result<(), Problem> {
     let ReadyFile { path, prepared } = first;
     let ReadyFile {
         path: next,
         prepared: other,
     } = second;
-    match put_both(prepared, other, &mut Record::new()) {
+    let mut log = HeldCalls::new();
+    let done = put_both(prepared, other, &mut log);
+    note_saved(acts, &log);
+    match done {
         Ok(_) => Ok(()),
-        Err(NotBoth::First { refusal, left }) => {
-            tell_left(host, next, left);
-            Err(not_saved(host, path, refusal))
-        }
-        Err(NotBoth::Second(refusal)) => Err(not_saved(host, next, refusal)),
+        Err(why) => Err(not_both(host, path, next, why)),
     }
 }
 
 /// Writes two that are ready, the second one only once the first was written.
-pub fn put_two(host: &Host<'_>, first: Ready<'_>, second: Ready<'_>) -> Result<(), Problem> {
+pub fn put_two(
+    host: &Host<'_>,
+    first: Ready<'_>,
+    second: Ready<'_>,
+    acts: &mut Acts,
+) -> Result<(), Problem> {
     match (first, second) {
-        (Ready::File(first), Ready::File(second)) => put_files(host, first, second),
+        (Ready::File(first), Ready::File(second)) => put_files(host, first, second, acts),
         (first, second) => {
-            first.put(host)?;
-            second.put(host)
+            first.put(host, acts)?;
+            second.put(host, acts)
         }
     }
 }
 
 /// Writes a file, which is whole then, or as it was; or bytes to the standard output, unless it is a terminal.
-pub fn save_to(host: &Host<'_>, output: &str, bytes: &[u8]) -> Result<(), Problem>
-    ensures { IfErr result (IsNotSaved output.now) }
+pub fn save_to(host: &Host<'_>, output: &str, bytes: &[u8], acts: &mut Acts) -> Result<(), Problem>
+    ensures cause { IfErr result (IsNotSaved output.now) }
 {
-    put_ready(host, output, bytes)
+    put_ready(host, output, bytes, acts)
 }
 
 /// The same of what lives as long as the host is lent.
-fn put_ready<'a>(host: &Host<'a>, output: &'a str, bytes: &'a [u8]) -> Result<(), Problem>
-    ensures { IfErr result (IsNotSaved output.now) }
+fn put_ready<'a>(
+    host: &Host<'a>,
+    output: &'a str,
+    bytes: &'a [u8],
+    acts: &mut Acts,
+) -> Result<(), Problem>
+    ensures cause { IfErr result (IsNotSaved output.now) }
 {
-    Ready::new(host, output, bytes)?.put(host)
+    Ready::new(host, output, bytes, acts)?.put(host, acts)
 }

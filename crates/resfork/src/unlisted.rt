@@ -1,10 +1,14 @@
 //! Files in a folder that its `resources.json` doesn't name.
 
+ghost use Rattle.std.specs.Prelude.{◌≡◌, ◌∷◌};
+ghost use Rattle.resfork.specs.Acts.{ReadsOnly, WritesNothing};
+ghost use Rattle.resfork.specs.declared.acts.Act.TheVariants as act;
+
+use crate::acts::{Acts, look_at, note_listed};
 use crate::host::Host;
-use crate::input::NotRead;
+use crate::input::{NotRead, unread};
 use crate::message::Problem;
 use crate::rez::MANIFEST;
-use crate::unread;
 use fork_folder::manifest::Packing;
 use fork_folder::rows::{Entry, PackFault};
 use fork_folder::with_added;
@@ -16,7 +20,7 @@ use std::{fs, io};
 type Paths = BTreeSet<String>;
 
 /// What is in a folder, by name, but for what begins with a dot.
-fn names_in(host: &Host<'_>, path: &str) -> io::Result<Vec<String>> {
+fn names_at(host: &Host<'_>, path: &str) -> io::Result<Vec<String>> {
     let alloc = host.alloc();
     let mut names = Vec::new(alloc);
     for entry in fs::read_dir(host.rt, path)? {
@@ -30,11 +34,16 @@ fn names_in(host: &Host<'_>, path: &str) -> io::Result<Vec<String>> {
     Ok(names)
 }
 
-/// The same, of a folder that is packed or is in it.
-fn names_below(host: &Host<'_>, path: &str) -> Result<Vec<String>, Problem> {
-    match names_in(host, path) {
+/// The same, noted.
+fn names_in(host: &Host<'_>, path: &str, acts: &mut Acts) -> Result<Vec<String>, Problem>
+    ensures notes { acts.new.events ≡ act.Listed path.now ∷ acts.old.events }
+    ensures quiet { ReadsOnly path.now acts.old.events acts.new.events }
+{
+    let names = names_at(host, path);
+    note_listed(acts, path);
+    match names {
         Ok(names) => Ok(names),
-        Err(error) => unread(host, path, NotRead::Failed(error)),
+        Err(error) => Err(unread(host, path, NotRead::Failed(error))),
     }
 }
 
@@ -55,10 +64,13 @@ fn add_inner(
     kind: &str,
     listed: &Paths,
     others: &mut Paths,
-) -> Result<(), Problem> {
+    acts: &mut Acts,
+) -> Result<(), Problem>
+    ensures quiet { WritesNothing acts.old.events acts.new.events }
+{
     let alloc = host.alloc();
     let path = format!(in alloc; "{folder}/{kind}")?;
-    for name in names_below(host, path.as_str())? {
+    for name in names_in(host, path.as_str(), acts)? {
         let path = format!(in alloc; "{kind}/{name}")?;
         if !listed.contains(path.as_str()) {
             others.insert(path).map_err(AllocError::from)?;
@@ -67,23 +79,36 @@ fn add_inner(
     Ok(())
 }
 
-/// Whether there is a folder at a path.
-fn is_folder(host: &Host<'_>, path: &str) -> bool {
-    match fs::metadata(host.rt, path) {
-        Ok(found) => found.is_dir(),
-        Err(_) => false,
+/// Whether there is a folder of this name in a folder.
+fn is_folder_in(
+    host: &Host<'_>,
+    folder: &str,
+    name: &str,
+    acts: &mut Acts,
+) -> Result<bool, AllocError>
+    ensures quiet { WritesNothing acts.old.events acts.new.events }
+{
+    let path = format!(in host.alloc(); "{folder}/{name}")?;
+    match look_at(host, path.as_str(), acts) {
+        Ok(Some(found)) => Ok(found.is_folder()),
+        _ => Ok(false),
     }
 }
 
 /// What is in a folder and its folders, and isn't listed. What begins with a dot is passed over.
-fn unlisted(host: &Host<'_>, folder: &str, entries: &[Entry]) -> Result<Paths, Problem> {
-    let alloc = host.alloc();
+fn unlisted(
+    host: &Host<'_>,
+    folder: &str,
+    entries: &[Entry],
+    acts: &mut Acts,
+) -> Result<Paths, Problem>
+    ensures quiet { WritesNothing acts.old.events acts.new.events }
+{
     let listed = listed_paths(host, entries)?;
-    let mut others = Paths::new(alloc);
-    for name in names_below(host, folder)? {
-        let path = format!(in alloc; "{folder}/{name}")?;
-        if is_folder(host, path.as_str()) {
-            add_inner(host, folder, name.as_str(), &listed, &mut others)?;
+    let mut others = Paths::new(host.alloc());
+    for name in names_in(host, folder, acts)? {
+        if is_folder_in(host, folder, name.as_str(), acts)? {
+            add_inner(host, folder, name.as_str(), &listed, &mut others, acts)?;
         } else if name.as_str() != MANIFEST {
             others.insert(name).map_err(AllocError::from)?;
         }
@@ -98,9 +123,12 @@ pub fn with_unlisted(
     folder: &str,
     packing: Packing,
     adds: bool,
-) -> Result<Packing, Problem> {
+    acts: &mut Acts,
+) -> Result<Packing, Problem>
+    ensures quiet { WritesNothing acts.old.events acts.new.events }
+{
     let alloc = host.alloc();
-    let others = unlisted(host, folder, packing.entries.as_slice())?;
+    let others = unlisted(host, folder, packing.entries.as_slice(), acts)?;
     if !adds && let Some(path) = others.first() {
         let path = String::from_str(alloc, path.as_str())?;
         return Err(Problem::Pack(PackFault::Unlisted(path)));

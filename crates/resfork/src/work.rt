@@ -1,15 +1,19 @@
 //! What the commands do that change files, and those that compare them.
 
-ghost use Rattle.std.specs.Prelude.{◌≡◌, ◌≢◌, ◌≤◌, IfOk, Ok, option_map};
+ghost use Rattle.std.specs.Prelude.{◌≡◌, ◌≢◌, ◌≤◌, IfErr, IfOk, Ok, Err, option_map, true};
+ghost use Rattle.resfork.specs.Acts.{ReadsBoth, ReadsNothing, ReadsOnly, WritesNothing};
 ghost use Rattle.resfork.specs.Problems.{file_at_fault};
+ghost use Rattle.resfork.specs.Running.{ReadsWork, is_dry_place, writes_nothing};
 
+use crate::acts::{Acts, look_at};
 use crate::asked_change::{Comparison, Copying, Packing, Putting, Removing, Setting, Target, Work};
 use crate::change::{change, create};
 use crate::convert::convert;
 use crate::host::Host;
+use crate::input::read;
 use crate::message::{CANT_GO_ON, DONE, NOT_FOUND, Problem};
 use crate::rez::{Like, derez_file, pack_folder, rez_file};
-use crate::{INPUT, finish, fork_found, read, table_found, write_text};
+use crate::{INPUT, finish, fork_found, table_found, write_text};
 use fork_bytes::table::{Row, Table};
 use fork_change::{Choice, Differences, Refusal};
 use fork_edit::difference::text_of;
@@ -18,8 +22,6 @@ use fork_edit::file::NotWritten;
 use fork_report::{Form, difference_line};
 use mac_base::error::HostFull;
 use std::alloc::Global;
-use std::fs;
-use std::io::ErrorKind;
 
 /// A file, and why it is in the way.
 #[derive(Drop)]
@@ -29,10 +31,11 @@ pub struct Failed<'a> {
 }
 
 /// Does what is asked for. The result is the exit status.
-pub fn work(host: &Host<'_>, work: Work<'_>) -> u8
-    ensures { result ≤ CANT_GO_ON }
+pub fn work(host: &Host<'_>, work: Work<'_>, acts: &mut Acts) -> u8
+    ensures few { result ≤ CANT_GO_ON }
+    ensures quiet { writes_nothing work.entry ≡ true → ReadsWork work.entry acts.old.events acts.new.events }
 {
-    match done(host, work) {
+    match done(host, work, acts) {
         Ok(status) => status,
         Err(Failed { file, problem }) => finish(host, file, Err(problem)),
     }
@@ -40,81 +43,99 @@ pub fn work(host: &Host<'_>, work: Work<'_>) -> u8
 
 /// What was done with a file, or that it is in the way.
 pub fn of_file<'a, T>(file: &'a str, done: Result<T, Problem>) -> Result<T, Failed<'a>>
-    ensures { IfOk result (λ value. done ≡ Ok value) }
+    ensures value { IfOk result (λ value. done ≡ Ok value) }
+    ensures problem { IfErr result (λ failed. done ≡ Err failed.problem) }
 {
-    done.map_err(|problem| Failed { file, problem })
+    match done {
+        Ok(value) => Ok(value),
+        Err(problem) => Err(Failed { file, problem }),
+    }
 }
 
 /// Does what is asked for. The result is the exit status, or which file is in the way.
-fn done<'a>(host: &Host<'_>, work: Work<'a>) -> Result<u8, Failed<'a>>
-    ensures { IfOk result (λ status. status ≤ NOT_FOUND) }
+fn done<'a>(host: &Host<'_>, work: Work<'a>, acts: &mut Acts) -> Result<u8, Failed<'a>>
+    ensures few { IfOk result (λ status. status ≤ NOT_FOUND) }
+    ensures quiet { writes_nothing work.entry ≡ true → ReadsWork work.entry acts.old.events acts.new.events }
 {
     match work {
-        Work::Put(asked) => put(host, asked),
-        Work::Remove(asked) => remove(host, &asked),
-        Work::Set(asked) => set(host, asked),
-        Work::Copy(asked) => copy_from(host, &asked),
-        Work::Compare(asked) => compare(host, asked),
+        Work::Put(asked) => put(host, asked, acts),
+        Work::Remove(asked) => remove(host, &asked, acts),
+        Work::Set(asked) => set(host, asked, acts),
+        Work::Copy(asked) => copy_from(host, &asked, acts),
+        Work::Compare(asked) => compare(host, asked, acts),
         Work::Derez(asked) => of_file(
             asked.file,
-            derez_file(host, asked.file, asked.kinds.as_slice()),
+            derez_file(host, asked.file, asked.kinds.as_slice(), acts),
         ),
-        Work::Rez(asked) => rez_file(host, asked),
-        Work::Pack(asked) => pack(host, asked),
-        Work::Convert(asked) => of_file(asked.target.file, convert(host, &asked)),
+        Work::Rez(asked) => rez_file(host, asked, acts),
+        Work::Pack(asked) => pack(host, asked, acts),
+        Work::Convert(asked) => of_file(asked.target.file, convert(host, &asked, acts)),
     }
 }
 
 /// Puts bytes in the place of a resource's, or adds it.
-fn put<'a>(host: &Host<'_>, asked: Putting<'a>) -> Result<u8, Failed<'a>>
-    ensures { IfOk result (λ status. status ≡ DONE) }
+fn put<'a>(host: &Host<'_>, asked: Putting<'a>, acts: &mut Acts) -> Result<u8, Failed<'a>>
+    ensures done { IfOk result (λ status. status ≡ DONE) }
+    ensures dry { asked.entry.target.is_dry ≡ true → WritesNothing acts.old.events acts.new.events }
 {
     let input = asked.input.unwrap_or(INPUT);
-    let bytes = of_file(input, read(host, input))?;
-    of_file(asked.target.file, put_bytes(host, asked, &bytes))
+    let bytes = of_file(input, read(host, input, acts))?;
+    of_file(asked.target.file, put_bytes(host, asked, &bytes, acts))
 }
 
 /// Puts these bytes in the place of a resource's, or adds it.
-fn put_bytes(host: &Host<'_>, asked: Putting<'_>, bytes: &[u8]) -> Result<u8, Problem>
-    ensures { IfOk result (λ status. status ≡ DONE) }
+fn put_bytes(
+    host: &Host<'_>,
+    asked: Putting<'_>,
+    bytes: &[u8],
+    acts: &mut Acts,
+) -> Result<u8, Problem>
+    ensures done { IfOk result (λ status. status ≡ DONE) }
+    ensures dry { asked.entry.target.is_dry ≡ true → WritesNothing acts.old.events acts.new.events }
 {
     let edit = Edit::Put {
         change: asked.change,
         bytes,
         is_new: asked.is_new,
     };
-    put_into(host, &asked.target, asked.creates, edit)
+    put_into(host, &asked.target, asked.creates, edit, acts)
 }
 
 /// Removes resources.
-fn remove<'a>(host: &Host<'_>, asked: &Removing<'a>) -> Result<u8, Failed<'a>>
-    ensures { IfOk result (λ status. status ≡ DONE) }
+fn remove<'a>(host: &Host<'_>, asked: &Removing<'a>, acts: &mut Acts) -> Result<u8, Failed<'a>>
+    ensures done { IfOk result (λ status. status ≡ DONE) }
+    ensures dry { asked.now.target.is_dry ≡ true → WritesNothing acts.old.events acts.new.events }
 {
     let edit = Edit::Remove(asked.whats.as_slice());
-    of_file(asked.target.file, change(host, &asked.target, &[], edit))
+    of_file(
+        asked.target.file,
+        change(host, &asked.target, &[], edit, acts),
+    )
 }
 
 /// Changes all of a resource but its bytes.
-fn set<'a>(host: &Host<'_>, asked: Setting<'a>) -> Result<u8, Failed<'a>>
-    ensures { IfOk result (λ status. status ≡ DONE) }
+fn set<'a>(host: &Host<'_>, asked: Setting<'a>, acts: &mut Acts) -> Result<u8, Failed<'a>>
+    ensures done { IfOk result (λ status. status ≡ DONE) }
+    ensures dry { asked.entry.target.is_dry ≡ true → WritesNothing acts.old.events acts.new.events }
 {
     let target = asked.target;
     let edit = Edit::Set {
         what: asked.what,
         change: asked.change,
     };
-    of_file(target.file, change(host, &target, &[], edit))
+    of_file(target.file, change(host, &target, &[], edit, acts))
 }
 
 /// Copies resources of a file to another.
-fn copy_from<'a>(host: &Host<'_>, asked: &Copying<'a>) -> Result<u8, Failed<'a>>
-    ensures { IfOk result (λ status. status ≡ DONE) }
+fn copy_from<'a>(host: &Host<'_>, asked: &Copying<'a>, acts: &mut Acts) -> Result<u8, Failed<'a>>
+    ensures done { IfOk result (λ status. status ≡ DONE) }
+    ensures dry { asked.now.target.is_dry ≡ true → WritesNothing acts.old.events acts.new.events }
 {
     let from = asked.from;
-    let bytes = of_file(from, read(host, from))?;
+    let bytes = of_file(from, read(host, from, acts))?;
     let found = of_file(from, fork_found(host, &bytes))?;
     let table = of_file(from, table_found(host, &found, &bytes))?;
-    copy_rows(host, asked, table.rows.as_slice())
+    copy_rows(host, asked, table.rows.as_slice(), acts)
 }
 
 /// Copies those of these rows that are asked for to a file.
@@ -122,8 +143,10 @@ pub fn copy_rows<'a>(
     host: &Host<'_>,
     asked: &Copying<'a>,
     rows: &[Row<'_>],
+    acts: &mut Acts,
 ) -> Result<u8, Failed<'a>>
-    ensures { IfOk result (λ status. status ≡ DONE) }
+    ensures done { IfOk result (λ status. status ≡ DONE) }
+    ensures dry { asked.now.target.is_dry ≡ true → WritesNothing acts.old.events acts.new.events }
 {
     let chosen = asked.chosen.as_slice();
     of_file(asked.from, can_copy(host, chosen, rows))?;
@@ -131,7 +154,10 @@ pub fn copy_rows<'a>(
         chosen,
         on_collision: asked.on_collision,
     };
-    of_file(asked.target.file, change(host, &asked.target, rows, edit))
+    of_file(
+        asked.target.file,
+        change(host, &asked.target, rows, edit, acts),
+    )
 }
 
 /// Whether each choice means a row, and no two rows that are meant have one type and id.
@@ -148,24 +174,31 @@ fn can_copy(host: &Host<'_>, chosen: &[Choice], rows: &[Row<'_>]) -> Result<(), 
 }
 
 /// Writes what differs between two files. The result says whether something does.
-fn compare<'a>(host: &Host<'_>, asked: Comparison<'a>) -> Result<u8, Failed<'a>>
-    ensures { IfOk result (λ status. status ≤ NOT_FOUND) }
+fn compare<'a>(host: &Host<'_>, asked: Comparison<'a>, acts: &mut Acts) -> Result<u8, Failed<'a>>
+    ensures few { IfOk result (λ status. status ≤ NOT_FOUND) }
+    ensures quiet { ReadsBoth asked.entry.a.now asked.entry.b.now acts.old.events acts.new.events }
 {
     let a = asked.a;
-    let bytes = of_file(a, read(host, a))?;
+    let bytes = of_file(a, read(host, a, acts))?;
     let found = of_file(a, fork_found(host, &bytes))?;
     let table = of_file(a, table_found(host, &found, &bytes))?;
-    of_file(asked.b, compare_with(host, asked, &table))
+    of_file(asked.b, compare_with(host, asked, &table, acts))
 }
 
 /// Writes what differs between the first file's table and the second file. The result says whether something does.
-fn compare_with(host: &Host<'_>, asked: Comparison<'_>, old: &Table<'_>) -> Result<u8, Problem>
-    ensures { IfOk result (λ status. status ≤ NOT_FOUND) }
+fn compare_with(
+    host: &Host<'_>,
+    asked: Comparison<'_>,
+    old: &Table<'_>,
+    acts: &mut Acts,
+) -> Result<u8, Problem>
+    ensures few { IfOk result (λ status. status ≤ NOT_FOUND) }
+    ensures quiet { ReadsOnly asked.entry.b.now acts.old.events acts.new.events }
 {
-    let bytes = read(host, asked.b)?;
+    let bytes = read(host, asked.b, acts)?;
     let found = fork_found(host, &bytes)?;
     let new = table_found(host, &found, &bytes)?;
-    write_differences(host, asked, old, &new)
+    write_differences(host, asked, old, &new, acts)
 }
 
 /// Writes what differs between two tables. The result says whether something does.
@@ -174,12 +207,16 @@ fn write_differences(
     asked: Comparison<'_>,
     old: &Table<'_>,
     new: &Table<'_>,
+    acts: &mut Acts,
 ) -> Result<u8, Problem>
+    ensures same { IfOk result (λ status. old.now ≡ new.now → status ≡ DONE) }
     ensures differs { IfOk result (λ status. old.now ≢ new.now → status ≡ NOT_FOUND) }
     ensures few { IfOk result (λ status. status ≤ NOT_FOUND) }
+    ensures quiet { ReadsNothing acts.old.events acts.new.events }
 {
     let differences = fork_change::compare(host.alloc(), old, new)?;
-    write_text(host, &difference_text(host.alloc(), asked, &differences)?)?;
+    let text = difference_text(host.alloc(), asked, &differences)?;
+    write_text(host, &text, acts)?;
     Ok(if differences.is_empty() {
         DONE
     } else {
@@ -200,18 +237,19 @@ fn difference_text(
 }
 
 /// Writes a fork of the files in a folder, alone or in a file like another one; or puts its resources into a file.
-fn pack<'a>(host: &Host<'_>, asked: Packing<'a>) -> Result<u8, Failed<'a>>
-    ensures { IfOk result (λ status. status ≡ DONE) }
+fn pack<'a>(host: &Host<'_>, asked: Packing<'a>, acts: &mut Acts) -> Result<u8, Failed<'a>>
+    ensures done { IfOk result (λ status. status ≡ DONE) }
+    ensures dry { is_dry_place asked.entry.place ≡ true → WritesNothing acts.old.events acts.new.events }
 {
     let Some(name) = asked.like else {
-        return pack_folder(host, asked, None);
+        return pack_folder(host, asked, None, acts);
     };
-    let bytes = of_file(name, read(host, name))?;
+    let bytes = of_file(name, read(host, name, acts))?;
     let like = Like {
         name,
         bytes: &bytes,
     };
-    pack_folder(host, asked, Some(like))
+    pack_folder(host, asked, Some(like), acts)
 }
 
 /// Which file is in the way where a fork isn't written of a text or a folder: the one that the new file is like, where
@@ -231,22 +269,17 @@ fn put_into(
     target: &Target<'_>,
     creates: bool,
     edit: Edit<'_>,
+    acts: &mut Acts,
 ) -> Result<u8, Problem>
-    ensures { IfOk result (λ status. status ≡ DONE) }
+    ensures done { IfOk result (λ status. status ≡ DONE) }
+    ensures dry { target.now.is_dry ≡ true → WritesNothing acts.old.events acts.new.events }
 {
-    if target.file == INPUT || is_there(host, target.file) {
-        change(host, target, &[], edit)
-    } else if creates {
-        create(host, target, &[], edit)
-    } else {
-        Err(Problem::NoFile)
+    if target.file == INPUT {
+        return change(host, target, &[], edit, acts);
     }
-}
-
-/// Whether there is a file of this name, or something is in the way of finding out.
-fn is_there(host: &Host<'_>, file: &str) -> bool {
-    match fs::metadata(host.rt, file) {
-        Err(error) => error.kind() != ErrorKind::NotFound,
-        Ok(_) => true,
+    match look_at(host, target.file, acts) {
+        Ok(None) if creates => create(host, target, &[], edit, acts),
+        Ok(None) => Err(Problem::NoFile),
+        _ => change(host, target, &[], edit, acts),
     }
 }

@@ -1,0 +1,5 @@
+use Rattle.resfork.specs.Acts.{WritesNothing}
+use Rattle.resfork.proofs.rez.read_files.Given as goal
+
+abbrev pub invariant-loop-entry : goal.invariant-loop-entry
+invariant-loop-entry l = WritesNothing l.fn.acts.events l.acts.events

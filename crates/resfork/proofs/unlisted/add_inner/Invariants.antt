@@ -1,0 +1,5 @@
+use Rattle.resfork.specs.Acts.{WritesNothing}
+use Rattle.resfork.proofs.unlisted.add_inner.Given as goal
+
+abbrev pub invariant-loop-name : goal.invariant-loop-name
+invariant-loop-name l = WritesNothing l.fn.acts.events l.acts.events
