@@ -8,7 +8,8 @@ use Rattle.std.proofs.lemmas.Option.{slice_get-map}
 use Rattle.fork_bytes.specs.declared.place.Place.{Place}
 use Rattle.fork_disk.specs.declared.mem_disk.MemDisk.{MemDisk}
 use Rattle.fork_disk.specs.declared.store.PlainStore.{PlainStore}
-use Rattle.held_files.specs.Forks.{ForksState, seen_on}
+use Rattle.held_files.specs.Forks.{ForksState, seen_on, no_zones}
+use Rattle.held_files.specs.declared.elsewhere.OtherZones.{OtherZones}
 use Rattle.held_files.specs.Saving.{AreAsSaved, CantBeSaved, IsSavedOver, saved_of}
 use Rattle.mac_base.specs.HandleTable.{HandleTable}
 use Rattle.res_files.specs.FilesOn.{FilesOn}
@@ -77,34 +78,35 @@ on_stores stores chain on =
     }
 
 -- what is saved of files on stores is what is saved of them as they are seen
-same_saved : (on : FilesOn Store) (now : ForksState) → seen_on on ≡ now → (chain : OpenFiles Place) (stores : List Store) (loads : Bool) → stores ≡ on.stores → loads ≡ on.loads
+same_saved : (zones : OtherZones) (on : FilesOn Store) (now : ForksState) → seen_on zones on ≡ now → (chain : OpenFiles Place) (stores : List Store) (loads : Bool) → stores ≡ on.stores → loads ≡ on.loads
     → record { chain = chain; loads = loads; disks = map disk_of stores } ≡ saved_of now chain
-same_saved on now is chain stores loads stores_are loads_are =
+same_saved zones on now is chain stores loads stores_are loads_are =
     let disks = ap (map disk_of) stores_are ∙ ap (λ (s : ForksState). s.disks) is in
     let loaded = loads_are ∙ ap (λ (s : ForksState). s.loads) is in
     cc (disks, loaded)
 
 -- files that can't be saved
-pub cant-seen : (on : FilesOn Store) (now : ForksState) → seen_on on ≡ now → (chain : OpenFiles Place) (stores : List Store) (loads : Bool) → stores ≡ on.stores → loads ≡ on.loads
+pub cant-seen : (zones : OtherZones) (on : FilesOn Store) (now : ForksState) → seen_on zones on ≡ now → (chain : OpenFiles Place) (stores : List Store) (loads : Bool) → stores ≡ on.stores → loads ≡ on.loads
     → on.files ≡ files_on (map disk_of on.stores) chain → OnStores on.stores chain → (over table : HandleTable) → over ≡ table
     → ¬ CanBeSaved over (record { chain = chain; loads = loads; disks = map disk_of stores }) → CantBeSaved table now
-cant-seen on now is chain stores loads stores_are loads_are seen placed over table over_is cant = record {
+cant-seen zones on now is chain stores loads stores_are loads_are seen placed over table over_is cant = record {
   chain = chain;
   seen = subst (λ (s : ForksState). s.files ≡ files_on s.disks chain) is seen;
   placed = subst (λ (s : ForksState). StandOnForks s.disks chain) is (on_forks on.stores chain placed);
   cant = subst (λ (t : HandleTable). ¬ CanBeSaved t (saved_of now chain)) over_is
-      (subst (λ (s : Saved). ¬ CanBeSaved over s) (same_saved on now is chain stores loads stores_are loads_are) cant);
+      (subst (λ (s : Saved). ¬ CanBeSaved over s) (same_saved zones on now is chain stores loads stores_are loads_are) cant);
 }
 
 -- files that are made of bytes
 pub loads-seen : (over table : HandleTable) → over ≡ table → (bytes : List ℕ) (files : SavedFiles) (new : ForksState)
-    → new ≡ seen_on (record { files = files_on (map disk_of files.stores.items) files.chain; loads = files.loads; stores = files.stores.items })
+    → new ≡ seen_on no_zones (record { files = files_on (map disk_of files.stores.items) files.chain; loads = files.loads; stores = files.stores.items })
     → IsSavedAs over (saved_in files) bytes → ((s : Saved) → IsSavedAs over s bytes → saved_in files ≡ s) → AreAsSaved table bytes new
 loads-seen over table over_is bytes files new new_is saved same = subst (λ (t : HandleTable). AreAsSaved t bytes new) over_is (subst (λ (n : ForksState). AreAsSaved over bytes n) (sym new_is) (record {
   saved = record { chain = files.chain; seen = refl; saved = saved };
   same = λ other was.
       let one = same (saved_of other was.chain) was.saved in
       (ap (λ (s : Saved). files_on s.disks s.chain) one ∙ sym was.seen, ap (λ (s : Saved). s.loads) one, ap (λ (s : Saved). s.disks) one);
+  zones = refl;
 }))
 
 -- bytes of no files

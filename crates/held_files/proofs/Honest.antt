@@ -10,6 +10,7 @@ use Rattle.fork_disk.specs.declared.store.PlainStore.{PlainStore}
 use Rattle.held_calls.specs.Answers.{OutOfAnswers, taken}
 use Rattle.held_calls.proofs.Steps.{exact-queued}
 use Rattle.held_files.specs.Forks.{ForksState, failures_in, fork_in, seen_on}
+use Rattle.held_files.specs.declared.elsewhere.OtherZones.{OtherZones}
 use Rattle.held_files.specs.Making.{FailsAt, HasNoMemory, StepsOnForks}
 use Rattle.held_zone.specs.declared.fields.GuestFields.{GuestFields}
 use Rattle.held_zone.specs.Purges.{Purges}
@@ -88,12 +89,12 @@ pub counts-rose : (k : ℕ) (old new : List Store) → Rose (failures_at failure
 counts-rose k old new rose = subst (λ (n : ℕ). Rose n (slice_index (map failures_in new) (k - 1))) (counted old (k - 1)) (subst (λ (n : ℕ). Rose (failures_at failures_in (k - 1) old) n) (counted new (k - 1)) rose)
 
 -- a call that had its host memory
-steps-on : (old new : State) (on new_on : FilesOn Store) (call : ResourceCall) (outcome : Outcome)
+steps-on : (zones : OtherZones) (old new : State) (on new_on : FilesOn Store) (call : ResourceCall) (outcome : Outcome)
     → ResourceSteps mem_store old.zone on call new.asks outcome new.zone new_on
     → ReadsBack (honest_in new_on.stores) (state_of fork_in old.zone on) call outcome (state_of fork_in new.zone new_on)
     → taken new.asks new.left ≡ old.left → OutOfAnswers new.asks new.left → new.loans ≡ old.loans → new.waiting ≡ old.waiting → new.guest ≡ old.guest → new.purges ≡ old.purges → KeepsLoans old.zone new.zone
-    → StepsOnForks old (seen_on on) call outcome new (seen_on new_on)
-steps-on old new on new_on call outcome steps reads took out loans waiting guest purges keeps = record {
+    → StepsOnForks old (seen_on zones on) call outcome new (seen_on zones new_on)
+steps-on zones old new on new_on call outcome steps reads took out loans waiting guest purges keeps = record {
   device = steps.device;
   step = step_by MayStep (StepsFrom old.left new.left) (read_truly IsPartly) steps.device (state_of fork_in old.zone on) call new.asks (record { outcome = outcome; state = state_of fork_in new.zone new_on })
       (λ s heap inner given after may. exact-queued s heap inner given after new.asks new.left old.left may.1 took out)
@@ -107,6 +108,7 @@ steps-on old new on new_on call outcome steps reads took out loans waiting guest
   guest = guest;
   purges = purges;
   lent = record { keeps = keeps };
+  zones = refl;
 }
   where
     was : ResState
@@ -132,12 +134,12 @@ steps-on old new on new_on call outcome steps reads took out loans waiting guest
     by_state cause = subst Caused before_is (by_device (device_works steps.device) (file_of_work (work_of steps.before call)) cause)
 
 -- one that had none
-no-memory : (old new : State) (on new_on : FilesOn Store) (call : ResourceCall)
+no-memory : (zones : OtherZones) (old new : State) (on new_on : FilesOn Store) (call : ResourceCall)
     → IsTrue (takes_memory (state_of fork_in old.zone on) call) → resource_refusal (state_of fork_in old.zone on) call ≡ None
     → new.zone ≡ old.zone → new.asks ≡ [] → taken new.asks new.left ≡ old.left → new.loans ≡ old.loans → new.waiting ≡ old.waiting → new.guest ≡ old.guest → new.purges ≡ old.purges
     → IsAnswered (honest_in new_on.stores) (state_of fork_in new.zone new_on) (state_of fork_in old.zone on)
-    → HasNoMemory old (seen_on on) call (Err MemFullErr) new (seen_on new_on)
-no-memory old new on new_on call takes passes zone asks took loans waiting guest purges same = record {
+    → HasNoMemory old (seen_on zones on) call (Err MemFullErr) new (seen_on zones new_on)
+no-memory zones old new on new_on call takes passes zone asks took loans waiting guest purges same = record {
   takes = takes;
   passes = passes;
   full = refl;
@@ -149,30 +151,31 @@ no-memory old new on new_on call takes passes zone asks took loans waiting guest
       ∙ ap (λ (fields : GuestFields). let s : State = record { zone = old.zone; loans = old.loans; left = old.left; asks = []; waiting = old.waiting; guest = fields; purges = new.purges } in s) guest
       ∙ ap (λ (p : Purges). let s : State = record { zone = old.zone; loans = old.loans; left = old.left; asks = []; waiting = old.waiting; guest = old.guest; purges = p } in s) purges;
   files = (ap (λ (s : ResState). s.files) stays, ap (λ (s : ResState). s.loads) stays, ap (λ (s : ResState). s.disks) stays);
+  zones = refl;
 }
   where
     stays : state_of fork_in new.zone new_on ≡ state_of fork_in old.zone on
     stays = sym (all_answered (honest_in new_on.stores) (all_honest new_on.stores) (state_of fork_in new.zone new_on) (state_of fork_in old.zone on) same)
 
-module _ (zone : State) (on : FilesOn Store) (old : State) (old_files : ForksState) (zone_is : zone ≡ old) (files_are : seen_on on ≡ old_files) (new : State) (new_on : FilesOn Store) (call : ResourceCall) where
+module _ (zones : OtherZones) (zone : State) (on : FilesOn Store) (old : State) (old_files : ForksState) (zone_is : zone ≡ old) (files_are : seen_on zones on ≡ old_files) (new : State) (new_on : FilesOn Store) (call : ResourceCall) where
   -- so it is with the zone and the files as they were seen
-  seen_then : (R : State → ForksState → Type 0) → R zone (seen_on on) → R old old_files
-  seen_then R is = subst (R old) files_are (subst (λ (s : State). R s (seen_on on)) zone_is is)
+  seen_then : (R : State → ForksState → Type 0) → R zone (seen_on zones on) → R old old_files
+  seen_then R is = subst (R old) files_are (subst (λ (s : State). R s (seen_on zones on)) zone_is is)
 
   pub steps-seen : (made : Result Outcome HostFull)
       → IfOk made (λ outcome. ResourceSteps mem_store zone.zone on call new.asks outcome new.zone new_on)
       → IfOk made (λ outcome. ReadsBack (honest_in new_on.stores) (state_of fork_in zone.zone on) call outcome (state_of fork_in new.zone new_on))
       → taken new.asks new.left ≡ zone.left → OutOfAnswers new.asks new.left → new.loans ≡ zone.loans → new.waiting ≡ zone.waiting → new.guest ≡ zone.guest → new.purges ≡ zone.purges → KeepsLoans zone.zone new.zone
-      → IfOk made (λ outcome. StepsOnForks old old_files call outcome new (seen_on new_on))
+      → IfOk made (λ outcome. StepsOnForks old old_files call outcome new (seen_on zones new_on))
   steps-seen (Ok outcome) steps reads took out loans waiting guest purges keeps =
-      seen_then (λ s f. StepsOnForks s f call outcome new (seen_on new_on)) (steps-on zone new on new_on call outcome steps reads took out loans waiting guest purges keeps)
+      seen_then (λ s f. StepsOnForks s f call outcome new (seen_on zones new_on)) (steps-on zones zone new on new_on call outcome steps reads took out loans waiting guest purges keeps)
   steps-seen (Err full) steps reads took out loans waiting guest purges keeps = tt
 
   pub none-seen : (made : Result Outcome HostFull)
       → OnErr made (IsTrue (takes_memory (state_of fork_in zone.zone on) call)) → OnErr made (resource_refusal (state_of fork_in zone.zone on) call ≡ None)
       → OnErr made (new.zone ≡ zone.zone) → OnErr made (new.asks ≡ []) → taken new.asks new.left ≡ zone.left → new.loans ≡ zone.loans → new.waiting ≡ zone.waiting → new.guest ≡ zone.guest → new.purges ≡ zone.purges
       → OnErr made (IsAnswered (honest_in new_on.stores) (state_of fork_in new.zone new_on) (state_of fork_in zone.zone on))
-      → OnErr made (HasNoMemory old old_files call (Err MemFullErr) new (seen_on new_on))
+      → OnErr made (HasNoMemory old old_files call (Err MemFullErr) new (seen_on zones new_on))
   none-seen (Ok outcome) takes passes same asks took loans waiting guest purges answered = tt
   none-seen (Err full) takes passes same asks took loans waiting guest purges answered =
-      seen_then (λ s f. HasNoMemory s f call (Err MemFullErr) new (seen_on new_on)) (no-memory zone new on new_on call takes passes same asks took loans waiting guest purges answered)
+      seen_then (λ s f. HasNoMemory s f call (Err MemFullErr) new (seen_on zones new_on)) (no-memory zones zone new on new_on call takes passes same asks took loans waiting guest purges answered)

@@ -3,6 +3,7 @@ use Rattle.std.proofs.Common.{◌≡◌, ◌∙◌, refl, ap, subst, ℕ, Bool, 
 use Rattle.std.specs.Prelude.{IsOk, MatchBool, OnErr, ⊤}
 use Rattle.fork_disk.specs.Fork.{IsPartly}
 use Rattle.held_files.specs.Forks.{ForksState, failures_in, fork_in, seen_on}
+use Rattle.held_files.specs.declared.elsewhere.OtherZones.{OtherZones}
 use Rattle.held_files.specs.Making.{FailsAt}
 use Rattle.held_files.specs.Patching.{PatchesOnForks}
 use Rattle.held_zone.specs.State.{State}
@@ -58,19 +59,20 @@ written_there honest is OutOfBounds update state saved = saved
 written_there honest is (Refused code) update state saved = saved
 
 -- a call that had its host memory
-patches-on : (zone : State) (on new_on : FilesOn Store) (call : PatchingCall) (part : Result RowPlace PartialEnd) (end : PartialEnd)
+patches-on : (zones : OtherZones) (zone : State) (on new_on : FilesOn Store) (call : PatchingCall) (part : Result RowPlace PartialEnd) (end : PartialEnd)
     → Patches (honest_in new_on.stores) (NoneFailed failures_in on.stores new_on.stores) (λ k. FailedAt failures_in k on.stores new_on.stores) IsPartly (state_of fork_in zone.zone on) call part end (state_of fork_in zone.zone new_on)
     → OnWritten end (IsSaved (honest_in new_on.stores) (update_asked call on.files part) (state_of fork_in zone.zone new_on))
     → OnErr part (new_on ≡ on)
-    → PatchesOnForks zone (seen_on on) call part end (seen_on new_on)
-patches-on zone on new_on call (Err refusal) end patches written refused = (patches.0, ap seen_on refused)
-patches-on zone on new_on call (Ok p) end patches written refused = inl (record {
+    → PatchesOnForks zone (seen_on zones on) call part end (seen_on zones new_on)
+patches-on zones zone on new_on call (Err refusal) end patches written refused = (patches.0, ap (seen_on zones) refused)
+patches-on zones zone on new_on call (Ok p) end patches written refused = inl (record {
   device = patches.device;
   step = step_truly honest is IsPartly p patches.device call was end becomes
       (subst (λ (s : ResState). PatchStepBy (answered_disks honest IsPartly) p patches.device call s end becomes) (all_answered honest is was patches.before patches.was)
       (subst (λ (s : ResState). PatchStepBy (answered_disks honest IsPartly) p patches.device call patches.before end s) (all_answered honest is becomes patches.after patches.becomes) patches.step));
   cause = caused (device_works patches.device) p.file on.stores new_on.stores patches.cause;
   reads_back = written_there honest is end (patch_update call on.files p) becomes written;
+  zones = refl;
 })
   where
     honest : ℕ → Type 0
@@ -86,30 +88,30 @@ patches-on zone on new_on call (Ok p) end patches written refused = inl (record 
     becomes = state_of fork_in zone.zone new_on
 
 -- one that had none
-full-on : (zone : State) (on new_on : FilesOn Store) (call : PatchingCall) (part : Result RowPlace PartialEnd) → IsOk part
+full-on : (zones : OtherZones) (zone : State) (on new_on : FilesOn Store) (call : PatchingCall) (part : Result RowPlace PartialEnd) → IsOk part
     → IsAnswered (honest_in new_on.stores) (state_of fork_in zone.zone on) (state_of fork_in zone.zone new_on) → NoneFailed failures_in on.stores new_on.stores
-    → PatchesOnForks zone (seen_on on) call part (Refused MemFullErr) (seen_on new_on)
-full-on zone on new_on call (Err refusal) late same works = absurd (cc late)
-full-on zone on new_on call (Ok p) late same works = inr (refl, stays)
+    → PatchesOnForks zone (seen_on zones on) call part (Refused MemFullErr) (seen_on zones new_on)
+full-on zones zone on new_on call (Err refusal) late same works = absurd (cc late)
+full-on zones zone on new_on call (Ok p) late same works = inr (refl, stays)
   where
     is : state_of fork_in zone.zone new_on ≡ state_of fork_in zone.zone on
     is = all_answered (honest_in new_on.stores) (all_honest new_on.stores) (state_of fork_in zone.zone on) (state_of fork_in zone.zone new_on) same
 
-    stays : seen_on new_on ≡ seen_on on
-    stays = ap (λ (s : ResState). let f : ForksState = record { files = s.files; loads = s.loads; disks = s.disks; failures = map failures_in new_on.stores } in f) is
-        ∙ ap (λ (counts : List ℕ). let f : ForksState = record { files = on.files; loads = on.loads; disks = map fork_in on.stores; failures = counts } in f) works
+    stays : seen_on zones new_on ≡ seen_on zones on
+    stays = ap (λ (s : ResState). let f : ForksState = record { files = s.files; loads = s.loads; disks = s.disks; failures = map failures_in new_on.stores; zones = zones } in f) is
+        ∙ ap (λ (counts : List ℕ). let f : ForksState = record { files = on.files; loads = on.loads; disks = map fork_in on.stores; failures = counts; zones = zones } in f) works
 
-module _ (zone : State) (on : FilesOn Store) (seen : State) (old : ForksState) (zone_is : zone ≡ seen) (files_are : seen_on on ≡ old) (new_on : FilesOn Store) (call : PatchingCall) where
+module _ (zones : OtherZones) (zone : State) (on : FilesOn Store) (seen : State) (old : ForksState) (zone_is : zone ≡ seen) (files_are : seen_on zones on ≡ old) (new_on : FilesOn Store) (call : PatchingCall) where
   -- so it is with the zone and the files as they were seen
-  seen_then : (end : PartialEnd) → PatchesOnForks zone (seen_on on) call (patch_asked call on.files) end (seen_on new_on) → PatchesOnForks seen old call (patch_asked call old.files) end (seen_on new_on)
-  seen_then end patches = subst (λ (f : ForksState). PatchesOnForks seen f call (patch_asked call f.files) end (seen_on new_on)) files_are
-      (subst (λ (s : State). PatchesOnForks s (seen_on on) call (patch_asked call on.files) end (seen_on new_on)) zone_is patches)
+  seen_then : (end : PartialEnd) → PatchesOnForks zone (seen_on zones on) call (patch_asked call on.files) end (seen_on zones new_on) → PatchesOnForks seen old call (patch_asked call old.files) end (seen_on zones new_on)
+  seen_then end patches = subst (λ (f : ForksState). PatchesOnForks seen f call (patch_asked call f.files) end (seen_on zones new_on)) files_are
+      (subst (λ (s : State). PatchesOnForks s (seen_on zones on) call (patch_asked call on.files) end (seen_on zones new_on)) zone_is patches)
 
   pub patches-seen : (end : PartialEnd) → PatchesOn mem_store zone.zone on call end new_on
       → OnWritten end (IsSaved (honest_in new_on.stores) (update_asked call on.files (patch_asked call on.files)) (state_of fork_in zone.zone new_on)) → OnErr (patch_asked call on.files) (new_on ≡ on)
-      → PatchesOnForks seen old call (patch_asked call old.files) end (seen_on new_on)
-  patches-seen end patches written refused = seen_then end (patches-on zone on new_on call (patch_asked call on.files) end patches written refused)
+      → PatchesOnForks seen old call (patch_asked call old.files) end (seen_on zones new_on)
+  patches-seen end patches written refused = seen_then end (patches-on zones zone on new_on call (patch_asked call on.files) end patches written refused)
 
   pub full-seen : IsOk (patch_asked call on.files) → IsAnswered (honest_in new_on.stores) (state_of fork_in zone.zone on) (state_of fork_in zone.zone new_on) → NoneFailed failures_in on.stores new_on.stores
-      → PatchesOnForks seen old call (patch_asked call old.files) (Refused MemFullErr) (seen_on new_on)
-  full-seen late same works = seen_then (Refused MemFullErr) (full-on zone on new_on call (patch_asked call on.files) late same works)
+      → PatchesOnForks seen old call (patch_asked call old.files) (Refused MemFullErr) (seen_on zones new_on)
+  full-seen late same works = seen_then (Refused MemFullErr) (full-on zones zone on new_on call (patch_asked call on.files) late same works)

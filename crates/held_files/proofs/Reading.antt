@@ -2,6 +2,7 @@
 use Rattle.std.proofs.Common.{◌≡◌, ap, subst, ℕ, Bool, List, length, Result, Ok, Err}
 use Rattle.std.specs.Prelude.{⊤}
 use Rattle.held_files.specs.Forks.{ForksState, failures_in, fork_in, seen_on}
+use Rattle.held_files.specs.declared.elsewhere.OtherZones.{OtherZones}
 use Rattle.held_files.specs.Making.{FailsAt}
 use Rattle.held_files.specs.Partial.{ReadsOnForks}
 use Rattle.held_zone.specs.State.{State}
@@ -33,11 +34,12 @@ module _ (honest other : ℕ → Type 0) (worked going : Type 0) (Failed Fails :
   part_by files (Err refusal) end reads = (reads.0, reads.1, work reads.2)
 
 -- such a read
-reads-on : (zone : State) (on new_on : FilesOn Store) (h at : ℕ) (before after : List ℕ) (end : PartialEnd) → ReadsPartOn mem_store zone.zone on h at before after end new_on
-    → IsAnswered (honest_in new_on.stores) (state_of fork_in zone.zone on) (state_of fork_in zone.zone new_on) → ReadsOnForks zone (seen_on on) h at before after end (seen_on new_on)
-reads-on zone on new_on h at before after end reads answered = (
+reads-on : (zones : OtherZones) (zone : State) (on new_on : FilesOn Store) (h at : ℕ) (before after : List ℕ) (end : PartialEnd) → ReadsPartOn mem_store zone.zone on h at before after end new_on
+    → IsAnswered (honest_in new_on.stores) (state_of fork_in zone.zone on) (state_of fork_in zone.zone new_on) → ReadsOnForks zone (seen_on zones on) h at before after end (seen_on zones new_on)
+reads-on zones zone on new_on h at before after end reads answered = (
   (ap (λ (s : ResState). s.files) same, ap (λ (s : ResState). s.loads) same, ap (λ (s : ResState). s.disks) same),
-  part_by (honest_in new_on.stores) (λ k. ⊤) (NoneFailed failures_in on.stores new_on.stores) (NoneFailed failures_in on.stores new_on.stores) (λ k. FailedAt failures_in k on.stores new_on.stores) (λ k. FailsAt k (seen_on on).failures (seen_on new_on).failures)
+  refl,
+  part_by (honest_in new_on.stores) (λ k. ⊤) (NoneFailed failures_in on.stores new_on.stores) (NoneFailed failures_in on.stores new_on.stores) (λ k. FailedAt failures_in k on.stores new_on.stores) (λ k. FailsAt k (seen_on zones on).failures (seen_on zones new_on).failures)
       (λ k any. all_honest new_on.stores k) (λ works. works) (λ k failed. counts-rose k on.stores new_on.stores failed.1)
       (is_full zone.zone.heap.table h) at before after on.files (part_asked h at (length before) on.files) end reads,
 )
@@ -46,9 +48,9 @@ reads-on zone on new_on h at before after end reads answered = (
     same = all_answered (honest_in new_on.stores) (all_honest new_on.stores) (state_of fork_in zone.zone on) (state_of fork_in zone.zone new_on) answered
 
 -- so it is with the zone and the files as they were seen
-pub reads-seen : (zone : State) (on : FilesOn Store) (seen : State) (old : ForksState) → zone ≡ seen → seen_on on ≡ old → (new_on : FilesOn Store) (h at : ℕ) (before after : List ℕ) (end : PartialEnd)
+pub reads-seen : (zones : OtherZones) (zone : State) (on : FilesOn Store) (seen : State) (old : ForksState) → zone ≡ seen → seen_on zones on ≡ old → (new_on : FilesOn Store) (h at : ℕ) (before after : List ℕ) (end : PartialEnd)
     → ReadsPartOn mem_store zone.zone on h at before after end new_on → IsAnswered (honest_in new_on.stores) (state_of fork_in zone.zone on) (state_of fork_in zone.zone new_on)
-    → ReadsOnForks seen old h at before after end (seen_on new_on)
-reads-seen zone on seen old zone_is files_are new_on h at before after end reads answered =
-    subst (λ (f : ForksState). ReadsOnForks seen f h at before after end (seen_on new_on)) files_are
-    (subst (λ (s : State). ReadsOnForks s (seen_on on) h at before after end (seen_on new_on)) zone_is (reads-on zone on new_on h at before after end reads answered))
+    → ReadsOnForks seen old h at before after end (seen_on zones new_on)
+reads-seen zones zone on seen old zone_is files_are new_on h at before after end reads answered =
+    subst (λ (f : ForksState). ReadsOnForks seen f h at before after end (seen_on zones new_on)) files_are
+    (subst (λ (s : State). ReadsOnForks s (seen_on zones on) h at before after end (seen_on zones new_on)) zone_is (reads-on zones zone on new_on h at before after end reads answered))

@@ -5,6 +5,7 @@ use Rattle.fork_disk.specs.Fork.{IsPartly}
 use Rattle.held_calls.specs.Answers.{OutOfAnswers, taken}
 use Rattle.held_calls.proofs.Steps.{exact-queued}
 use Rattle.held_files.specs.Forks.{ForksState, failures_in, fork_in, seen_on}
+use Rattle.held_files.specs.declared.elsewhere.OtherZones.{OtherZones}
 use Rattle.held_files.specs.Making.{FailsAt, SeeksOnForks}
 use Rattle.held_zone.specs.State.{State}
 use Rattle.linked_zone.specs.Loans.{KeepsLoans}
@@ -22,11 +23,11 @@ use Rattle.toolbox.specs.Steps.{StepsFrom}
 use Rattle.held_files.proofs.Honest.{Store, all_honest, counts-rose, honest_in, mem_store}
 
 -- such a call
-seeks-on : (old new : State) (on new_on : FilesOn Store) (call : SeekingCall) (outcome : Outcome)
+seeks-on : (zones : OtherZones) (old new : State) (on new_on : FilesOn Store) (call : SeekingCall) (outcome : Outcome)
     → SoughtSteps mem_store old.zone on call new.asks outcome new.zone new_on
     → taken new.asks new.left ≡ old.left → OutOfAnswers new.asks new.left → new.loans ≡ old.loans → new.waiting ≡ old.waiting → new.guest ≡ old.guest → new.purges ≡ old.purges → KeepsLoans old.zone new.zone
-    → SeeksOnForks old (seen_on on) call outcome new (seen_on new_on)
-seeks-on old new on new_on call outcome steps took out loans waiting guest purges keeps = record {
+    → SeeksOnForks old (seen_on zones on) call outcome new (seen_on zones new_on)
+seeks-on zones old new on new_on call outcome steps took out loans waiting guest purges keeps = record {
   device = steps.device;
   step = honest_found (honest_in new_on.stores) (NoneFailed mem_store.failures on.stores new_on.stores) (λ k. FailedAt mem_store.failures k on.stores new_on.stores)
       MayStep (StepsFrom old.left new.left) IsPartly (state_of fork_in old.zone on) (sought call on.files) new.asks outcome (state_of fork_in new.zone new_on) (all_honest new_on.stores)
@@ -38,6 +39,7 @@ seeks-on old new on new_on call outcome steps took out loans waiting guest purge
   guest = guest;
   purges = purges;
   lent = record { keeps = keeps };
+  zones = refl;
 }
   where
     by_place : (found : Result RowPlace OsErr) → IsOkAnd found (λ p. FailedAt failures_in p.file on.stores new_on.stores) → IsOkAnd found (λ p. FailsAt p.file (map failures_in on.stores) (map failures_in new_on.stores))
@@ -50,10 +52,10 @@ seeks-on old new on new_on call outcome steps took out loans waiting guest purge
     by_device false found cause = by_place found cause
 
 -- so it is with the zone and the files as they were seen
-pub seeks-seen : (zone : State) (on : FilesOn Store) (old : State) (old_files : ForksState) → zone ≡ old → seen_on on ≡ old_files → (new : State) (new_on : FilesOn Store) (call : SeekingCall) (outcome : Outcome)
+pub seeks-seen : (zones : OtherZones) (zone : State) (on : FilesOn Store) (old : State) (old_files : ForksState) → zone ≡ old → seen_on zones on ≡ old_files → (new : State) (new_on : FilesOn Store) (call : SeekingCall) (outcome : Outcome)
     → SoughtSteps mem_store zone.zone on call new.asks outcome new.zone new_on
     → taken new.asks new.left ≡ zone.left → OutOfAnswers new.asks new.left → new.loans ≡ zone.loans → new.waiting ≡ zone.waiting → new.guest ≡ zone.guest → new.purges ≡ zone.purges → KeepsLoans zone.zone new.zone
-    → SeeksOnForks old old_files call outcome new (seen_on new_on)
-seeks-seen zone on old old_files zone_is files_are new new_on call outcome steps took out loans waiting guest purges keeps =
-    subst (λ (f : ForksState). SeeksOnForks old f call outcome new (seen_on new_on)) files_are
-    (subst (λ (s : State). SeeksOnForks s (seen_on on) call outcome new (seen_on new_on)) zone_is (seeks-on zone new on new_on call outcome steps took out loans waiting guest purges keeps))
+    → SeeksOnForks old old_files call outcome new (seen_on zones new_on)
+seeks-seen zones zone on old old_files zone_is files_are new new_on call outcome steps took out loans waiting guest purges keeps =
+    subst (λ (f : ForksState). SeeksOnForks old f call outcome new (seen_on zones new_on)) files_are
+    (subst (λ (s : State). SeeksOnForks s (seen_on zones on) call outcome new (seen_on zones new_on)) zone_is (seeks-on zones zone new on new_on call outcome steps took out loans waiting guest purges keeps))

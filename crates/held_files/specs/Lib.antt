@@ -1,4 +1,5 @@
 pub mod Forks
+pub mod Elsewhere
 pub mod Held
 pub mod Info
 pub mod Making

@@ -32,7 +32,7 @@ FailsAt k before now = Rose (slice_index before (k - 1)) (slice_index now (k - 1
 -- grow-zone procedure gives the answers that are left, first in, first out, and takes them from the front. A device
 -- is memory, which fails only where the host has none for a longer fork. A file that was updated with success reads
 -- back as the table that was saved. What is lent stays where it is, what waits to be lent waits on, and the
--- guest's fields of the zone's header stay, and so does what C learns of purges.
+-- guest's fields of the zone's header stay, and so does what C learns of purges, and what is known of other zones.
 pub record StepsOnForks (old : State) (old_files : ForksState) (call : ResourceCall) (outcome : Outcome) (new : State) (new_files : ForksState) : Type 0 where
   pub device : Device
   pub step : ResourceStepBy (StepsFrom old.left new.left) (read_truly IsPartly) device (resource_state old old_files) call new.asks
@@ -46,6 +46,7 @@ pub record StepsOnForks (old : State) (old_files : ForksState) (call : ResourceC
   pub guest : new.guest ≡ old.guest
   pub purges : new.purges ≡ old.purges
   pub lent : StaysLent old.zone new.zone
+  pub zones : new_files.zones ≡ old_files.zones
 
 -- From a zone and files, a call that seeks a resource otherwise than by its id ends so and leaves these: where it finds
 -- one, that is got just as GetResource gets it. The answers that are left, the devices, what is lent and what waits are
@@ -62,6 +63,7 @@ pub record SeeksOnForks (old : State) (old_files : ForksState) (call : SeekingCa
   pub guest : new.guest ≡ old.guest
   pub purges : new.purges ≡ old.purges
   pub lent : StaysLent old.zone new.zone
+  pub zones : new_files.zones ≡ old_files.zones
 
 -- The host has no memory for a call that takes some and isn't refused: the answer is memFullErr, and nothing has
 -- changed but what was asked.
@@ -71,6 +73,7 @@ pub record HasNoMemory (old : State) (old_files : ForksState) (call : ResourceCa
   pub full : outcome ≡ Err MemFullErr
   pub zone : new ≡ with_no_asks old
   pub files : SameForks old_files new_files
+  pub zones : new_files.zones ≡ old_files.zones
 
 -- one or the other
 abbrev pub MakesResource : State → ForksState → ResourceCall → Outcome → State → ForksState → Type 0

@@ -2,7 +2,7 @@
 use Rattle.std.specs.Global.{Vec}
 use Rattle.std.specs.Prelude.{◌≡◌, ⊤, List, ℕ, Option, Some, None, Result, Ok, Err}
 use Rattle.fork_bytes.specs.declared.place.Place.{Place}
-use Rattle.held_files.specs.Forks.{ForksState, SameForks}
+use Rattle.held_files.specs.Forks.{ForksState, SameForks, no_zones}
 use Rattle.held_zone.specs.State.{State}
 use Rattle.mac_base.specs.HandleTable.{HandleTable}
 use Rattle.res_files.specs.Standing.{files_on}
@@ -29,10 +29,11 @@ pub record CantBeSaved (table : HandleTable) (files : ForksState) : Type 0 where
   pub placed : StandOnForks files.disks chain
   pub cant : ¬ CanBeSaved table (saved_of files chain)
 
--- Files are as those of which these bytes were saved over a zone, whichever these are.
+-- Files are as those of which these bytes were saved over a zone, whichever these are. No other zone is known.
 pub record AreAsSaved (table : HandleTable) (bytes : List ℕ) (new : ForksState) : Type 0 where
   pub saved : IsSavedOver table new bytes
   pub same : (other : ForksState) → IsSavedOver table other bytes → SameForks other new
+  pub zones : new.zones ≡ no_zones
 
 -- where there are a zone and files, they give the bytes that they are saved as over it; or the host has no memory, or they
 -- can't be saved. Else nothing is saved.

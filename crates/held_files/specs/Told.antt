@@ -2,9 +2,12 @@
 use Rattle.std.specs.Int.{from_be_bytes, w32}
 use Rattle.std.specs.Prelude.{◌≡◌, ◌⊎◌, ◌==◌, ◌++◌, ℕ, ℤ, pos, nat_lt, if◌then◌else◌, List, [], ◌∷◌, drop, length, Option, Some, None, Ok, MatchBool, option_and_then, option_map, unwrap_or}
 use Rattle.held_files.specs.Forks.{ForksState, fork_of_number, free_number, HasFork, HasNoForks, without_handles}
+use Rattle.held_files.specs.Elsewhere.{IsFirstLoaded, elsewhere, needing, sought_elsewhere}
 use Rattle.held_files.specs.Making.{MakesResource, SeeksOnForks}
+use Rattle.held_files.specs.declared.elsewhere.OverZone.{OverZone}
+use Rattle.held_files.specs.declared.elsewhere.OverZone.TheVariants.{Other, This}
 use Rattle.fork_bytes.specs.Over.{IsOver}
-use Rattle.held_zone.specs.State.{State}
+use Rattle.held_zone.specs.State.{State, with_no_asks}
 use Rattle.held_zone.specs.Told.{Makes, code_told, no_zone, number_told}
 use Rattle.mac_base.specs.Codes.{minus}
 use Rattle.mac_base.specs.Outcomes.{Outcome}
@@ -19,34 +22,52 @@ use Rattle.res_update.specs.Device.{Disk}
 use Rattle.res_update.specs.declared.seeking_call.SeekingCall.{SeekingCall}
 use Rattle.mac_base.specs.declared.resource_call.ResourceCall.{ResourceCall}
 
--- The call is made, where there are a zone and files; else there is no outcome, and both stay.
-abbrev pub ResourceCalled : Option State → Option ForksState → ResourceCall → Option Outcome → Option State → Option ForksState → Type 0
-ResourceCalled (Some old) (Some old_files) call (Some outcome) (Some new) (Some new_files) = MakesResource old old_files call outcome new new_files
-ResourceCalled (Some old) None call None new new_files = (new ≡ Some old) × (new_files ≡ None)
-ResourceCalled None old_files call None new new_files = (new ≡ None) × (new_files ≡ old_files)
+-- the code of a call: that it has to be made over another zone is a code of the host's
+abbrev pub over_code : OverZone Outcome → ℤ
+over_code Other = minus 1004
+over_code (This outcome) = code_told outcome
+
+-- the number of a call, where another one was, which stays where it gives none
+abbrev pub over_number : ℕ → OverZone Outcome → ℕ
+over_number before Other = before
+over_number before (This outcome) = number_told before outcome
+
+-- A call that has to be made over another zone changes nothing but what is known of that; any other is made.
+abbrev pub MakesOver : Option ℕ → State → ForksState → (Outcome → State → ForksState → Type 0) → OverZone Outcome → State → ForksState → Type 0
+MakesOver (Some at) old old_files Makes Other new new_files = (new ≡ with_no_asks old) × (new_files ≡ needing at old_files)
+MakesOver None old old_files Makes (This (Some outcome)) new new_files = Makes outcome new new_files
+MakesOver _ old old_files Makes _ new new_files = ⊥
+
+-- The call is made over its zone, where there are a zone and files; else there is no outcome, and both stay.
+abbrev pub ResourceCalled : Option State → Option ForksState → ResourceCall → OverZone Outcome → Option State → Option ForksState → Type 0
+ResourceCalled (Some old) (Some old_files) call end (Some new) (Some new_files) =
+    MakesOver (elsewhere old.zone.shape old_files call) old old_files (MakesResource old old_files call) end new new_files
+ResourceCalled (Some old) None call (This None) new new_files = (new ≡ Some old) × (new_files ≡ None)
+ResourceCalled None old_files call (This None) new new_files = (new ≡ None) × (new_files ≡ old_files)
 ResourceCalled _ _ call _ _ _ = ⊥
 
 -- The call is made, and C gets this code.
 abbrev pub ResourceTold : Option State → Option ForksState → ResourceCall → ℤ → Option State → Option ForksState → Type 0
-ResourceTold old old_files call code new new_files = (outcome : Option Outcome) × (code ≡ code_told outcome) × ResourceCalled old old_files call outcome new new_files
+ResourceTold old old_files call code new new_files = (end : OverZone Outcome) × (code ≡ over_code end) × ResourceCalled old old_files call end new new_files
 
 -- The call is made, and C gets this code and this number, where another one was.
 abbrev pub ResourceToldNumber : Option State → Option ForksState → ResourceCall → ℤ → ℕ → ℕ → Option State → Option ForksState → Type 0
 ResourceToldNumber old old_files call code before number new new_files =
-    (outcome : Option Outcome) × (code ≡ code_told outcome) × (number ≡ number_told before outcome) × ResourceCalled old old_files call outcome new new_files
+    (end : OverZone Outcome) × (code ≡ over_code end) × (number ≡ over_number before end) × ResourceCalled old old_files call end new new_files
 
--- A call that seeks a resource otherwise than by its id is made, where there are a zone and files; else there is no
--- outcome, and both stay.
-abbrev pub ResourceSought : Option State → Option ForksState → SeekingCall → Option Outcome → Option State → Option ForksState → Type 0
-ResourceSought (Some old) (Some old_files) call (Some outcome) (Some new) (Some new_files) = SeeksOnForks old old_files call outcome new new_files
-ResourceSought (Some old) None call None new new_files = (new ≡ Some old) × (new_files ≡ None)
-ResourceSought None old_files call None new new_files = (new ≡ None) × (new_files ≡ old_files)
+-- A call that seeks a resource otherwise than by its id is made over its zone, where there are a zone and files; else
+-- there is no outcome, and both stay.
+abbrev pub ResourceSought : Option State → Option ForksState → SeekingCall → OverZone Outcome → Option State → Option ForksState → Type 0
+ResourceSought (Some old) (Some old_files) call end (Some new) (Some new_files) =
+    MakesOver (sought_elsewhere old.zone.shape old_files call) old old_files (SeeksOnForks old old_files call) end new new_files
+ResourceSought (Some old) None call (This None) new new_files = (new ≡ Some old) × (new_files ≡ None)
+ResourceSought None old_files call (This None) new new_files = (new ≡ None) × (new_files ≡ old_files)
 ResourceSought _ _ call _ _ _ = ⊥
 
 -- It is made, and C gets this code and this handle, where another number was.
 abbrev pub SoughtTold : Option State → Option ForksState → SeekingCall → ℤ → ℕ → ℕ → Option State → Option ForksState → Type 0
 SoughtTold old old_files call code before handle new new_files =
-    (outcome : Option Outcome) × (code ≡ code_told outcome) × (handle ≡ number_told before outcome) × ResourceSought old old_files call outcome new new_files
+    (end : OverZone Outcome) × (code ≡ over_code end) × (handle ≡ over_number before end) × ResourceSought old old_files call end new new_files
 
 -- the resource type that an outcome gives, as a number, written over the one that was there, which stays where it
 -- gives none
@@ -54,10 +75,15 @@ abbrev pub kind_told : ℕ → Option Outcome → ℕ
 kind_told before (Some (Ok (Kind kind))) = from_be_bytes w32 kind
 kind_told before _ = before
 
+-- the same of a call
+abbrev pub over_kind : ℕ → OverZone Outcome → ℕ
+over_kind before Other = before
+over_kind before (This outcome) = kind_told before outcome
+
 -- The call is made, and C gets this code and this resource type, where another one was.
 abbrev pub ResourceToldKind : Option State → Option ForksState → ResourceCall → ℤ → ℕ → ℕ → Option State → Option ForksState → Type 0
 ResourceToldKind old old_files call code before kind new new_files =
-    (outcome : Option Outcome) × (code ≡ code_told outcome) × (kind ≡ kind_told before outcome) × ResourceCalled old old_files call outcome new new_files
+    (end : OverZone Outcome) × (code ≡ over_code end) × (kind ≡ over_kind before end) × ResourceCalled old old_files call end new new_files
 
 -- what a resource is called, as C is shown it
 abbrev pub shown_info : ResourceInfo → MrInfo
@@ -68,12 +94,17 @@ abbrev pub info_told : MrInfo × List ℕ → Option Outcome → MrInfo × List 
 info_told before (Some (Ok (Info i))) = (shown_info i, unwrap_or i.name [] ++ drop (length (unwrap_or i.name [])) before.1)
 info_told before _ = before
 
+-- the same of a call
+abbrev pub over_info : MrInfo × List ℕ → OverZone Outcome → MrInfo × List ℕ
+over_info before Other = before
+over_info before (This outcome) = info_told before outcome
+
 -- The call is made, and C gets this code and what the resource is called, where it has room for 255 bytes of a name;
 -- else the answer is paramErr, and no call is made.
 abbrev pub InfoTold : Option State → Option ForksState → ℕ → ℤ → MrInfo × List ℕ → MrInfo × List ℕ → Option State → Option ForksState → Type 0
 InfoTold old old_files h code before info new new_files = MatchBool (nat_lt (length before.1) 255)
     ((code ≡ minus 50) × (info ≡ before) × (new ≡ old) × (new_files ≡ old_files))
-    ((outcome : Option Outcome) × (code ≡ code_told outcome) × (info ≡ info_told before outcome) × ResourceCalled old old_files (GetResInfo h) outcome new new_files)
+    ((end : OverZone Outcome) × (code ≡ over_code end) × (info ≡ over_info before end) × ResourceCalled old old_files (GetResInfo h) end new new_files)
 
 -- The file of a number, of which none is open, gets this fork and is opened, and C gets its number. The host has no
 -- memory for a copy of the fork, and the answer is memFullErr: that changes nothing.
@@ -138,6 +169,13 @@ fork_sized k count files = option_and_then (λ (fork : Disk). if length fork == 
 abbrev pub Shows : {A : Type 0} → Option A → ℤ → A → A → Type 0
 Shows (Some found) code before shown = (code ≡ pos 0) × (shown ≡ found)
 Shows None code before shown = (code ≡ minus 50) × (shown ≡ before)
+
+-- C is shown the first handle that a resource has in a zone. All stay.
+abbrev pub FirstLoadedTold : Option State → Option ForksState → ℤ → ℕ → ℕ → Option State → Option ForksState → Type 0
+FirstLoadedTold (Some old) (Some old_files) code before handle new new_files =
+    (found : Option ℕ) × IsFirstLoaded old.zone.shape old_files.files found × Shows found code before handle × (new ≡ Some old) × (new_files ≡ Some old_files)
+FirstLoadedTold (Some old) None code before handle new new_files = (code ≡ no_zone) × (handle ≡ before) × (new ≡ Some old) × (new_files ≡ None)
+FirstLoadedTold None old_files code before handle new new_files = (code ≡ no_zone) × (handle ≡ before) × (new ≡ None) × (new_files ≡ old_files)
 
 -- C is shown something of files, which stay.
 abbrev pub ForkTold : {A : Type 0} → (ForksState → Option A) → Option ForksState → ℤ → A → A → Option ForksState → Type 0

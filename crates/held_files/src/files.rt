@@ -6,6 +6,7 @@ ghost use Rattle.mac_base.specs.Released.{disposed_by, disposed_in};
 ghost use Rattle.res_files.specs.Standing.{most_files};
 ghost use Rattle.res_table.specs.OpenFiles.{is_open};
 
+use crate::elsewhere::{OtherZones, OverZone};
 use fork_bytes::is_over;
 use fork_disk::MemDisk;
 use fork_disk::store::PlainStore;
@@ -24,9 +25,10 @@ use std::alloc::Global;
 use std::marker::Model;
 
 /// Resource files, `MOST_FILES` at most, with their forks in memory. A contract sees the open files, whether calls load
-/// what they get, and the forks.
+/// what they get, the forks, and what is known of other zones.
 pub struct ForkFiles {
     files: ResourceFiles<PlainStore<MemDisk>>,
+    zones: OtherZones,
 }
 
 impl Model for ForkFiles {
@@ -36,7 +38,7 @@ impl Model for ForkFiles {
 
     ghost Value = { ForksState };
 
-    ghost view = { λ f. seen_on f.files };
+    ghost view = { λ f. seen_on f.zones f.files };
 
     ghost invariant = { λ f. length f.files.stores ≡ most_files };
 }
@@ -44,7 +46,7 @@ impl Model for ForkFiles {
 impl Drop for ForkFiles {
     /// What isn't written stays unwritten.
     fn drop(self) {
-        let ForkFiles { files } = self;
+        let ForkFiles { files, zones: _ } = self;
         drop(files.into_stores());
     }
 }
@@ -88,7 +90,8 @@ fn no_stores(alloc: Global) -> Result<Vec<PlainStore<MemDisk>>, HostFull>
 
 impl ForkFiles {
     ghost use Rattle.std.specs.Prelude.{IsSome, OnErr, filter_map};
-    ghost use Rattle.held_files.specs.Told.{Disposes, GivesFork, OpensFork};
+    ghost use Rattle.held_files.specs.Elsewhere.{elsewhere, needed, needing, with_system};
+    ghost use Rattle.held_files.specs.Told.{Disposes, GivesFork, MakesOver, OpensFork};
     ghost use Rattle.held_files.specs.Forks.{HasNoForks, without_handles};
     ghost use Rattle.held_files.specs.Making.{HasNoMemory, MakesResource, SeeksOnForks, StepsOnForks};
 
@@ -99,8 +102,37 @@ impl ForkFiles {
         let stores = no_stores(alloc)?;
         let files = ForkFiles {
             files: ResourceFiles::new(alloc, stores),
+            zones: OtherZones::none(),
         };
         Ok(Box::new(alloc, files)?)
+    }
+
+    /// The files, to be read.
+    pub(crate) fn files(&self) -> &ResourceFiles<PlainStore<MemDisk>>
+        ensures { result.now.files ≡ self.now.files }
+    {
+        &self.files
+    }
+
+    /// An address in the system zone, if that is known.
+    pub(crate) fn system(&self) -> Option<u32>
+        ensures { result ≡ self.now.zones.system }
+    {
+        self.zones.system
+    }
+
+    /// Resources with resSysHeap are loaded into the zone that has this address from now on, or as all others are.
+    pub fn set_system(&mut self, address: Option<u32>)
+        ensures { self.new ≡ with_system address self.old }
+    {
+        self.zones.system = address;
+    }
+
+    /// An address in the zone over which the last call has to be made that was given another.
+    pub fn needed(&self) -> Option<u32>
+        ensures { result ≡ needed self.now }
+    {
+        self.zones.needed
     }
 
     /// The first number of which no file is open.
@@ -234,6 +266,31 @@ impl ForkFiles {
         }
     }
 
+    /// The same over the zone that the call has to be made over; where that is another one, nothing changes but what is
+    /// known of it.
+    pub fn make_over(
+        &mut self,
+        alloc: Global,
+        session: &mut Session,
+        call: &ResourceCall<'_>,
+    ) -> OverZone<Outcome>
+        ensures { MakesOver (elsewhere session.old.zone.shape self.old call.now) session.old self.old (MakesResource session.old self.old call.now) result session.new self.new }
+    {
+        if let Some(address) = self.elsewhere(session.memory.linked().spec(), call) {
+            session.answers.begin();
+            self.need(address);
+            return OverZone::Other;
+        }
+        OverZone::This(Some(self.make(alloc, session, call)))
+    }
+
+    /// Notes an address in the zone over which a call has to be made.
+    fn need(&mut self, address: u32)
+        ensures { self.new ≡ needing address self.old }
+    {
+        self.zones.needed = Some(address);
+    }
+
     /// The same, and it says where the host has no memory.
     fn step(
         &mut self,
@@ -273,6 +330,25 @@ impl ForkFiles {
         // What was asked says whether answers are left.
         prove!(session.answers.asks().len() <= MOST_ASKS);
         outcome
+    }
+}
+
+impl ForkFiles {
+    ghost use Rattle.held_files.specs.Elsewhere.{sought_elsewhere};
+    ghost use Rattle.held_files.specs.Making.{SeeksOnForks};
+    ghost use Rattle.held_files.specs.Told.{MakesOver};
+
+    /// The same over the zone that the call has to be made over; where that is another one, nothing changes but what is
+    /// known of it.
+    pub fn seek_over(&mut self, session: &mut Session, call: &SeekingCall<'_>) -> OverZone<Outcome>
+        ensures { MakesOver (sought_elsewhere session.old.zone.shape self.old call.now) session.old self.old (SeeksOnForks session.old self.old call.now) result session.new self.new }
+    {
+        if let Some(address) = self.sought_elsewhere(session.memory.linked().spec(), call) {
+            session.answers.begin();
+            self.need(address);
+            return OverZone::Other;
+        }
+        OverZone::This(Some(self.seek(session, call)))
     }
 }
 
@@ -342,6 +418,7 @@ impl ForkFiles {
         } = saved_files::load(alloc, session.memory.linked(), bytes)?;
         let files = ForkFiles {
             files: ResourceFiles::restored(alloc, chain, stores, loads),
+            zones: OtherZones::none(),
         };
         match Box::new(alloc, files) {
             Ok(files) => Ok(files),
@@ -351,7 +428,8 @@ impl ForkFiles {
 }
 
 impl ForkFiles {
-    ghost use Rattle.held_files.specs.Partial.{ReadsOnForks};
+    ghost use Rattle.held_files.specs.Elsewhere.{handle_outside};
+    ghost use Rattle.held_files.specs.Partial.{ReadsOnForks, ReadsOver};
 
     /// ReadPartialResource: reads as many bytes as the buffer holds of those that a resource has in its fork, from an
     /// offset on.
@@ -366,11 +444,29 @@ impl ForkFiles {
     {
         res_manager::read_partial(&mut self.files, &session.memory, handle, offset, buffer)
     }
+
+    /// The same over the zone that the handle is in; where that is another one, nothing changes but what is known of it.
+    pub fn read_partial_over(
+        &mut self,
+        session: &Session,
+        handle: Handle,
+        offset: u32,
+        buffer: &mut [u8],
+    ) -> OverZone<PartialEnd>
+        ensures { ReadsOver (handle_outside session.now.zone.shape handle self.old.files) session.now self.old handle offset buffer.old buffer.new result self.new }
+    {
+        if let Some(address) = self.handle_outside(session.memory.linked().spec(), handle) {
+            self.need(address);
+            return OverZone::Other;
+        }
+        OverZone::This(Some(self.read_partial(session, handle, offset, buffer)))
+    }
 }
 
 impl ForkFiles {
-    ghost use Rattle.held_files.specs.Patching.{PatchesOnForks};
-    ghost use Rattle.res_update.specs.Patching.{patch_asked};
+    ghost use Rattle.held_files.specs.Elsewhere.{handle_outside};
+    ghost use Rattle.held_files.specs.Patching.{PatchesOnForks, PatchesOver};
+    ghost use Rattle.res_update.specs.Patching.{handle_patched, patch_asked};
 
     /// Makes a call that changes the bytes that a resource has in its fork, which is written at once. Where the host
     /// has no memory for it, it is memFullErr.
@@ -381,5 +477,22 @@ impl ForkFiles {
             Ok(end) => end,
             Err(_) => PartialEnd::Refused(OsErr::MemFullErr),
         }
+    }
+
+    /// The same over the zone that the resource's handle is in; where that is another one, nothing changes but what is
+    /// known of it.
+    pub fn patch_over(
+        &mut self,
+        alloc: Global,
+        session: &Session,
+        call: &PatchingCall<'_>,
+    ) -> OverZone<PartialEnd>
+        ensures { PatchesOver (handle_outside session.now.zone.shape (handle_patched call.now) self.old.files) session.now self.old call.now result self.new }
+    {
+        if let Some(address) = self.patched_elsewhere(session.memory.linked().spec(), call) {
+            self.need(address);
+            return OverZone::Other;
+        }
+        OverZone::This(Some(self.patch(alloc, session, call)))
     }
 }

@@ -5,8 +5,9 @@ ghost use Rattle.std.specs.Option.{option_map};
 ghost use Rattle.held_files.specs.Forks.{ForksState};
 ghost use Rattle.held_files.specs.Held.{LacksOne, is_there};
 
+use crate::elsewhere::OverZone;
 use crate::files::ForkFiles;
-use crate::told::{MrInfo, info, kind};
+use crate::told::{MrInfo, OTHER_ZONE, info, kind, over_number};
 use held_zone::parked::Parked;
 use held_zone::session::Session;
 use held_zone::told::{self, NO_ZONE};
@@ -158,7 +159,7 @@ fn null() -> *mut u8 {
 }
 
 impl MrFiles {
-    ghost use Rattle.held_files.specs.Told.{DisposeTold, ForgetTold, InfoTold, OpenTold, ResourceCalled, ResourceTold, ResourceToldKind, ResourceToldNumber, ResourceSought, SoughtTold};
+    ghost use Rattle.held_files.specs.Told.{DisposeTold, FirstLoadedTold, ForgetTold, InfoTold, OpenTold, ResourceCalled, ResourceTold, ResourceToldKind, ResourceToldNumber, ResourceSought, SoughtTold};
 
     /// Makes a call of the Resource Manager, where there are files and a zone.
     pub fn call(
@@ -166,21 +167,26 @@ impl MrFiles {
         alloc: Global,
         zone: &mut MhZone,
         call: &ResourceCall<'_>,
-    ) -> Option<Outcome>
+    ) -> OverZone<Outcome>
         ensures { ResourceCalled zone.old.held.session self.old.held.files call.now result zone.new.held.session self.new.held.files }
     {
-        let (mut files, mut session) = self.take_with(alloc, zone)?;
-        let outcome = files.make(alloc, &mut session, call);
+        let Some((mut files, mut session)) = self.take_with(alloc, zone) else {
+            return OverZone::This(None);
+        };
+        let end = files.make_over(alloc, &mut session, call);
         self.put(files);
         zone.put(session);
-        Some(outcome)
+        end
     }
 
     /// Makes a call, and returns its code.
     pub fn code(&mut self, alloc: Global, zone: &mut MhZone, call: &ResourceCall<'_>) -> i16
         ensures { ResourceTold zone.old.held.session self.old.held.files call.now result zone.new.held.session self.new.held.files }
     {
-        told::code(&self.call(alloc, zone, call))
+        match self.call(alloc, zone, call) {
+            OverZone::Other => OTHER_ZONE,
+            OverZone::This(outcome) => told::code(&outcome),
+        }
     }
 
     /// Makes a call, returns its code, and writes its number, where it gives one.
@@ -193,7 +199,7 @@ impl MrFiles {
     ) -> i16
         ensures { ResourceToldNumber zone.old.held.session self.old.held.files call.now result number.old number.new zone.new.held.session self.new.held.files }
     {
-        told::number(&self.call(alloc, zone, call), number)
+        over_number(&self.call(alloc, zone, call), number)
     }
 
     /// Makes a call that seeks a resource otherwise than by its id, where there are files and a zone.
@@ -202,14 +208,16 @@ impl MrFiles {
         alloc: Global,
         zone: &mut MhZone,
         call: &SeekingCall<'_>,
-    ) -> Option<Outcome>
+    ) -> OverZone<Outcome>
         ensures { ResourceSought zone.old.held.session self.old.held.files call.now result zone.new.held.session self.new.held.files }
     {
-        let (mut files, mut session) = self.take_with(alloc, zone)?;
-        let outcome = files.seek(&mut session, call);
+        let Some((mut files, mut session)) = self.take_with(alloc, zone) else {
+            return OverZone::This(None);
+        };
+        let end = files.seek_over(&mut session, call);
         self.put(files);
         zone.put(session);
-        Some(outcome)
+        end
     }
 
     /// Makes such a call, returns its code, and writes the handle of the resource, where there is one.
@@ -222,7 +230,7 @@ impl MrFiles {
     ) -> i16
         ensures { SoughtTold zone.old.held.session self.old.held.files call.now result handle.old handle.new zone.new.held.session self.new.held.files }
     {
-        told::number(&self.sought(alloc, zone, call), handle)
+        over_number(&self.sought(alloc, zone, call), handle)
     }
 
     /// Makes a call, returns its code, and writes its resource type, where it gives one.
@@ -235,7 +243,10 @@ impl MrFiles {
     ) -> i16
         ensures { ResourceToldKind zone.old.held.session self.old.held.files call.now result number.old number.new zone.new.held.session self.new.held.files }
     {
-        kind(&self.call(alloc, zone, call), number)
+        match self.call(alloc, zone, call) {
+            OverZone::Other => OTHER_ZONE,
+            OverZone::This(outcome) => kind(&outcome, number),
+        }
     }
 
     /// GetResInfo: returns its code, and writes what the resource is called. paramErr where there is no room for 255
@@ -253,8 +264,10 @@ impl MrFiles {
         if name.len() < 255 {
             return OsErr::ParamErr.code();
         }
-        let outcome = self.call(alloc, zone, &ResourceCall::GetResInfo(handle));
-        info(&outcome, shown, name)
+        match self.call(alloc, zone, &ResourceCall::GetResInfo(handle)) {
+            OverZone::Other => OTHER_ZONE,
+            OverZone::This(outcome) => info(&outcome, shown, name),
+        }
     }
 
     /// Opens a file on a copy of a fork, returns the code, and writes the file's number.
@@ -281,6 +294,25 @@ impl MrFiles {
         self.put(files);
         zone.put(session);
         NO_ERR
+    }
+
+    /// Writes the first handle that a resource has in a zone. paramErr where there is none.
+    pub fn first_loaded(&mut self, alloc: Global, zone: &mut MhZone, handle: &mut u32) -> i16
+        ensures { FirstLoadedTold zone.old.held.session self.old.held.files result handle.old handle.new zone.new.held.session self.new.held.files }
+    {
+        let Some((files, session)) = self.take_with(alloc, zone) else {
+            return NO_ZONE;
+        };
+        let found = files.first_loaded(session.memory.linked().spec());
+        self.put(files);
+        zone.put(session);
+        match found {
+            Some(first) => {
+                *handle = first;
+                NO_ERR
+            }
+            None => OsErr::ParamErr.code(),
+        }
     }
 
     /// Disposes of a handle, which no resource has then, and returns the code.

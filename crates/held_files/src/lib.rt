@@ -2,6 +2,7 @@
 #![tactic(auto)]
 
 mod counting;
+pub mod elsewhere;
 pub mod files;
 pub mod held;
 mod partial;

@@ -3,6 +3,7 @@
 ghost use Rattle.held_files.specs.Partial.{PartCalled};
 ghost use Rattle.held_files.specs.Patching.{PatchCalled};
 
+use crate::elsewhere::OverZone;
 use crate::held::MrFiles;
 use held_zone::zone::MhZone;
 use mac_base::handle::Handle;
@@ -19,14 +20,16 @@ impl MrFiles {
         handle: Handle,
         offset: u32,
         buffer: &mut [u8],
-    ) -> Option<PartialEnd>
+    ) -> OverZone<PartialEnd>
         ensures { PartCalled zone.old.held.session self.old.held.files handle offset buffer.old buffer.new result zone.new.held.session self.new.held.files }
     {
-        let (mut files, session) = self.take_with(alloc, zone)?;
-        let read = files.read_partial(&session, handle, offset, buffer);
+        let Some((mut files, session)) = self.take_with(alloc, zone) else {
+            return OverZone::This(None);
+        };
+        let end = files.read_partial_over(&session, handle, offset, buffer);
         self.put(files);
         zone.put(session);
-        Some(read)
+        end
     }
 
     /// Makes a call that changes the bytes that a resource has in its fork, where there are files and a zone.
@@ -35,13 +38,15 @@ impl MrFiles {
         alloc: Global,
         zone: &mut MhZone,
         call: &PatchingCall<'_>,
-    ) -> Option<PartialEnd>
+    ) -> OverZone<PartialEnd>
         ensures { PatchCalled zone.old.held.session self.old.held.files call.now result zone.new.held.session self.new.held.files }
     {
-        let (mut files, session) = self.take_with(alloc, zone)?;
-        let end = files.patch(alloc, &session, call);
+        let Some((mut files, session)) = self.take_with(alloc, zone) else {
+            return OverZone::This(None);
+        };
+        let end = files.patch_over(alloc, &session, call);
         self.put(files);
         zone.put(session);
-        Some(end)
+        end
     }
 }

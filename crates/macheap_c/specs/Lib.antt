@@ -10,3 +10,4 @@ pub mod Partial
 pub mod Look
 pub mod Purges
 pub mod SavedState
+pub mod Zones

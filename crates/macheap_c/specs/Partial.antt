@@ -2,6 +2,8 @@
 use Rattle.std.specs.Prelude.{◌≡◌, ℕ, ℤ, pos, List, Option, Some, None}
 use Rattle.held_files.specs.Forks.{ForksState}
 use Rattle.held_files.specs.Partial.{PartCalled}
+use Rattle.held_files.specs.declared.elsewhere.OverZone.{OverZone}
+use Rattle.held_files.specs.declared.elsewhere.OverZone.TheVariants.{Other, This}
 use Rattle.held_files.specs.Patching.{PatchCalled}
 use Rattle.held_zone.specs.State.{State}
 use Rattle.held_zone.specs.Told.{no_zone}
@@ -10,19 +12,20 @@ use Rattle.res_update.specs.declared.partial_end.PartialEnd.{PartialEnd}
 use Rattle.res_update.specs.declared.partial_end.PartialEnd.TheVariants.{Done, InMemory, OutOfBounds, Refused}
 use Rattle.res_update.specs.declared.patching_call.PatchingCall.{PatchingCall}
 
--- the code of its end: resourceInMemory and inputOutOfBounds have their own; and where there are no zone or no files,
--- paramErr
-abbrev pub part_code : Option PartialEnd → ℤ
-part_code None = no_zone
-part_code (Some Done) = pos 0
-part_code (Some InMemory) = minus 188
-part_code (Some OutOfBounds) = minus 190
-part_code (Some (Refused code)) = code_of code
+-- the code of its end: resourceInMemory, inputOutOfBounds and another zone have their own; and where there are no zone or
+-- no files, paramErr
+abbrev pub part_code : OverZone PartialEnd → ℤ
+part_code Other = minus 1004
+part_code (This None) = no_zone
+part_code (This (Some Done)) = pos 0
+part_code (This (Some InMemory)) = minus 188
+part_code (This (Some OutOfBounds)) = minus 190
+part_code (This (Some (Refused code))) = code_of code
 
 -- The call is made, and C gets this code, and these bytes in the place of as many others.
 abbrev pub PartTold : Option State → Option ForksState → ℕ → ℕ → ℤ → List ℕ → List ℕ → Option State → Option ForksState → Type 0
-PartTold zone files h at code before after new new_files = (end : Option PartialEnd) × (code ≡ part_code end) × PartCalled zone files h at before after end new new_files
+PartTold zone files h at code before after new new_files = (end : OverZone PartialEnd) × (code ≡ part_code end) × PartCalled zone files h at before after end new new_files
 
 -- A call that changes them is made, and C gets this code.
 abbrev pub PatchTold : Option State → Option ForksState → PatchingCall → ℤ → Option State → Option ForksState → Type 0
-PatchTold zone files call code new new_files = (end : Option PartialEnd) × (code ≡ part_code end) × PatchCalled zone files call end new new_files
+PatchTold zone files call code new new_files = (end : OverZone PartialEnd) × (code ≡ part_code end) × PatchCalled zone files call end new new_files

@@ -21,3 +21,4 @@ mod resources;
 mod saved_state;
 mod walk;
 mod wrote;
+mod zones;

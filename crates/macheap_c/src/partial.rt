@@ -4,7 +4,9 @@ ghost use Rattle.std.specs.Prelude.{◌≡◌};
 ghost use Rattle.macheap_c.specs.Partial.{PartTold, PatchTold, part_code};
 ghost use Rattle.res_update.specs.declared.patching_call.PatchingCall.TheVariants.{SetResourceSize, WritePartialResource};
 
+use held_files::elsewhere::OverZone;
 use held_files::held::MrFiles;
+use held_files::told::OTHER_ZONE;
 use held_zone::told::NO_ZONE;
 use held_zone::zone::MhZone;
 use mac_base::Span;
@@ -21,15 +23,16 @@ const RESOURCE_IN_MEMORY: i16 = -188;
 const INPUT_OUT_OF_BOUNDS: i16 = -190;
 
 /// The code of the end of a call, if it was made.
-fn part_code(end: Option<PartialEnd>) -> i16
+fn part_code(end: OverZone<PartialEnd>) -> i16
     ensures { result ≡ part_code end }
 {
     match end {
-        None => NO_ZONE,
-        Some(PartialEnd::Done) => NO_ERR,
-        Some(PartialEnd::InMemory) => RESOURCE_IN_MEMORY,
-        Some(PartialEnd::OutOfBounds) => INPUT_OUT_OF_BOUNDS,
-        Some(PartialEnd::Refused(code)) => code.code(),
+        OverZone::Other => OTHER_ZONE,
+        OverZone::This(None) => NO_ZONE,
+        OverZone::This(Some(PartialEnd::Done)) => NO_ERR,
+        OverZone::This(Some(PartialEnd::InMemory)) => RESOURCE_IN_MEMORY,
+        OverZone::This(Some(PartialEnd::OutOfBounds)) => INPUT_OUT_OF_BOUNDS,
+        OverZone::This(Some(PartialEnd::Refused(code))) => code.code(),
     }
 }
 

@@ -22,4 +22,4 @@ pub use info::set_info;
 pub use manager::make;
 pub use partial::read_partial;
 pub use patching::patch;
-pub use seeking::seek;
+pub use seeking::{find_place, seek};

@@ -53,7 +53,10 @@ fn find_sought<S: ForkStore>(
 }
 
 /// Where the resource is that a call seeks, if there is one.
-fn find_place<S: ForkStore>(files: &ResourceFiles<S>, call: &SeekingCall<'_>) -> Option<RowPlace>
+pub fn find_place<S: ForkStore>(
+    files: &ResourceFiles<S>,
+    call: &SeekingCall<'_>,
+) -> Option<RowPlace>
     ensures value { result ≡ place_sought call.now files.now.files }
     ensures there { IfSome result (λ place. IsSome (row_at place files.now.files)) }
 {

@@ -19,5 +19,5 @@ returns c =
     let old : State = state c.session.inside.memory loans c.session.inside.answers.left c.session.inside.answers.asks c.session.inside.waiting.items c.session.inside.guest c.session.inside.purges in
     let new : State = state c.seek-outcome.new.memory loans c.seek-outcome.new.procedure.left c.seek-outcome.new.procedure.asks c.session.inside.waiting.items c.session.inside.guest c.session.inside.purges in
     let took = c.seek-outcome.ensures.source ∙ ap (λ (q : Queue). taken q.asks q.left) c.begin.ensures in
-    seeks-seen old c.self.inside.files c.args.session.now c.args.self.now c.session.view_is c.self.view_is new c.seek-outcome.new.files c.args.call.now c.seek-outcome.result
+    seeks-seen c.self.inside.zones old c.self.inside.files c.args.session.now c.args.self.now c.session.view_is c.self.view_is new c.seek-outcome.new.files c.args.call.now c.seek-outcome.result
     c.seek-outcome.ensures.step took c.asks.ensures.out refl refl refl refl c.seek-outcome.ensures.loans

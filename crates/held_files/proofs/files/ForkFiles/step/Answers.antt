@@ -19,7 +19,7 @@ returns-clause-steps c =
     let old : State = state c.session.inside.memory loans c.session.inside.answers.left c.session.inside.answers.asks c.session.inside.waiting.items c.session.inside.guest c.session.inside.purges in
     let new : State = state c.make-made.new.memory loans c.make-made.new.procedure.left c.make-made.new.procedure.asks c.session.inside.waiting.items c.session.inside.guest c.session.inside.purges in
     let took = c.make-made.ensures.source ∙ ap (λ (q : Queue). taken q.asks q.left) c.begin.ensures in
-    steps-seen old c.self.inside.files c.args.session.now c.args.self.now c.session.view_is c.self.view_is new c.make-made.new.files c.args.call.now c.make-made.result
+    steps-seen c.self.inside.zones old c.self.inside.files c.args.session.now c.args.self.now c.session.view_is c.self.view_is new c.make-made.new.files c.args.call.now c.make-made.result
     c.make-made.ensures.step c.make-made.ensures.leaves.reads_back took c.asks.ensures.out refl refl refl refl c.make-made.ensures.loans
 
 pub returns-clause-full : goal.returns-clause-full
@@ -28,5 +28,5 @@ returns-clause-full c =
     let old : State = state c.session.inside.memory loans c.session.inside.answers.left c.session.inside.answers.asks c.session.inside.waiting.items c.session.inside.guest c.session.inside.purges in
     let new : State = state c.make-made.new.memory loans c.make-made.new.procedure.left c.make-made.new.procedure.asks c.session.inside.waiting.items c.session.inside.guest c.session.inside.purges in
     let took = c.make-made.ensures.source ∙ ap (λ (q : Queue). taken q.asks q.left) c.begin.ensures in
-    none-seen old c.self.inside.files c.args.session.now c.args.self.now c.session.view_is c.self.view_is new c.make-made.new.files c.args.call.now c.make-made.result
+    none-seen c.self.inside.zones old c.self.inside.files c.args.session.now c.args.self.now c.session.view_is c.self.view_is new c.make-made.new.files c.args.call.now c.make-made.result
     c.make-made.ensures.full c.make-made.ensures.late c.make-made.ensures.unchanged c.make-made.ensures.unasked took refl refl refl refl c.make-made.ensures.same
