@@ -13,7 +13,8 @@
  *
  * Files know handles as numbers. So that these stay those of their resources, a program does this; else a call may
  * take another block for a resource's, and harms nothing of the host:
- *  - It gives each call on files the same zone, from the first handle on.
+ *  - The zones that it gives calls on files don't overlap, from where each begins to where it may grow. Before one of
+ *    them ends, no resource has a handle in it (mr_first_loaded), or the files end.
  *  - A zone made of saved bytes goes with the files that mr_load makes, of bytes that mr_save copied with those. Files
  *    that are opened anew know none of its handles, and load each resource that they get once more: what was loaded
  *    is released, or detached, before the bytes are saved.
@@ -49,7 +50,8 @@ enum {
     MR_RES_ATTR_ERR = -198, /* the resource's attributes forbid the call */
     MR_MAP_READ_ERR = -199, /* the resource map is damaged */
     MR_TOO_BIG = -1001,     /* no code of a Macintosh: the fork is bigger than mr_open takes */
-    MR_BAD_STATE = -1003    /* no code of a Macintosh: files that can't be saved, or no saved files of this zone */
+    MR_BAD_STATE = -1003,   /* no code of a Macintosh: files that can't be saved, or no saved files of this zone */
+    MR_OTHER_ZONE = -1004   /* no code of a Macintosh: the call has to be made over another zone (mr_other_zone) */
 };
 
 /* Resource files, or none. Its fields are the library's. */
@@ -80,10 +82,10 @@ MhErr mr_fork(MrFiles *files, uint32_t file, uint8_t *fork, size_t length);
 /* Save states, with mh_image or the guest's memory: all that the files are, as bytes. mr_save_size says how many there
  * are, and mr_save copies just so many; paramErr where `count` is another number. mr_load makes files of them where
  * none have begun (paramErr), over the same zone or one that has its handles, as one made of its bytes: each call does
- * then what it would have done without the pause. Forks, those of closed files too, the files' numbers and order, the
+ * then what it would have done without the pause, once mr_set_system_zone is called as before. Forks, those of closed files too, the files' numbers and order, the
  * current file, what mr_set_res_load set, and what each resource is, with its handle and whether it was changed, are
  * as they were. Call mr_forget before, if the zone's last call asked. It is MR_BAD_STATE where files can't be saved,
- * since a resource's handle isn't live, or two resources have it, or the names of a file have more bytes than a fork
+ * since a resource's handle that is in this zone isn't live, or two resources have one, or the names of a file have more bytes than a fork
  * can say; and where no mr_save over this zone copies these bytes, whoever wrote them. Nothing has changed then, nor
  * where the host has no memory (memFullErr). The bytes are this library's own; the 13th is their version. */
 MhErr mr_save_size(MrFiles *files, MhZone *zone, size_t *size);
@@ -167,6 +169,22 @@ MhErr mr_rmve_resource(MrFiles *files, MhZone *zone, uint32_t handle);
 MhErr mr_write_resource(MrFiles *files, MhZone *zone, uint32_t handle);
 MhErr mr_update_res_file(MrFiles *files, MhZone *zone, uint32_t file);
 MhErr mr_close_res_file(MrFiles *files, MhZone *zone, uint32_t file);
+
+/* Several zones, as the system's and an application's. A resource is in the zone that has its handle, and each call is
+ * given the current zone, or of one that takes a handle, the handle's. The call is MR_OTHER_ZONE, and nothing has
+ * changed, where it gets or loads a resource that is in another zone, writes it, reads or writes its bytes in the fork,
+ * or releases, detaches or removes it. mr_other_zone returns an address in the right zone: the resource's handle. Make
+ * the call again over that zone. mr_update_res_file is MR_OTHER_ZONE where a changed resource of the file is in another
+ * zone, and mr_close_res_file where any is: mr_other_zone returns the first one's handle. Write it by mr_write_resource
+ * over its zone, and before the file is closed give it up by mr_release_resource; and so on with each. mr_set_system_zone
+ * says which address the system zone has: from then on a resource with resSysHeap (64) that has no handle yet is got over
+ * that zone alone. With 0, as at first, it is got as all others are. mr_first_loaded returns the first handle that a
+ * resource has in a zone, and paramErr where there is none: before a zone ends, dispose of each. mr_save needs one zone
+ * alone: then mr_save_size over each other one says whether the handles that are there are live, or it is
+ * MR_BAD_STATE. */
+MhErr mr_other_zone(MrFiles *files, uint32_t *address);
+MhErr mr_set_system_zone(MrFiles *files, uint32_t address);
+MhErr mr_first_loaded(MrFiles *files, MhZone *zone, uint32_t *handle);
 
 /* Handles that go. mr_dispose_handle is mh_dispose_handle, and no resource has the handle then. After mr_forget no
  * resource has a handle that an answer of the grow-zone procedure disposed of in the zone's last call. */

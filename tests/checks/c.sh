@@ -6,7 +6,8 @@
 # byte of a zone that is damaged, named and mended; a look at zones of its own, and at 20,000 that others made; bytes from outside the zone, with 40,000 random calls on each of two zones; handles
 # that are purged, and calls that are held before they purge, with 80,000 random calls on each of two zones; 175,000 random calls, 100,000 of them on a zone that a guest writes, of which macheap prints the same; and 100,000 on resource files; resources
 # by their names, and other names for them; what all open resource files have together, after 4,000 random calls; 20,000 random reads and
-# writes of some of a resource's bytes; resource files that are saved and loaded amid 20,000 random calls, and each byte of such changed;
+# writes of some of a resource's bytes; resource files that are saved and loaded amid 20,000 random calls, and each byte of such changed; 100,000 random calls on resource files over
+# three zones;
 # 255 resource files at a time; all traps, by their table; a zone and files that four threads use in
 # turn; a zone that the host has no memory for, over c/heap.c, too; a fork, of which resfork prints the same; and forks whose bytes are
 # known, written anew. Next the examples in C, C++ and Rust (c/check.sh). Then that the library is small, shows the names of its headers and
@@ -82,6 +83,8 @@ built partial -O1 -fsanitize=address,undefined
 "$room/partial"
 built saved_state -O1 -fsanitize=address,undefined
 "$room/saved_state"
+built zones -O1 -fsanitize=address,undefined
+"$room/zones"
 built many_files -O1 -fsanitize=address,undefined
 "$room/many_files"
 built limits -O1 -fsanitize=address,undefined

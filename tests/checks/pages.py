@@ -25,7 +25,7 @@ LINES = {
     "docs/DECISIONS.md": 60,
     "docs/DESIGN.md": 198,
     "docs/DIFFERENCES.md": 88,
-    "docs/EMULATORS.md": 96,
+    "docs/EMULATORS.md": 99,
     "docs/FILES.md": 135,
     "docs/FORMAT.md": 78,
     "docs/SCRIPT.md": 266,
@@ -33,7 +33,7 @@ LINES = {
 }
 WIDTH = 100
 # the most words of all pages, code blocks aside
-WORDS = 11000
+WORDS = 11200
 GLOSSARY = "docs/DESIGN.md"
 # the line of the glossary that has the words that no page uses, and what is allowed of them
 ALLOWED = re.compile(r"\bstands? for\b")

@@ -24,7 +24,8 @@ HOST = set(
     """mh_make_zone mh_make_zone_large mh_make_zone_of mh_make_zone_at mh_end_zone mh_end_asleep mh_attach mh_wake mh_wake_written mh_sleep mh_sleep_wrote
     mh_check mh_look mh_repair mh_deref mh_peek mh_poke mh_lend mh_lent_peek mh_lent_poke mh_return mh_window mh_first_block mh_block mh_holder
     mh_image_size mh_image mh_new_handle_of mh_set_handle_to mh_append mh_queue_answer mh_asked mh_ask mh_carried mh_hold_purges mh_would_purge
-    mh_purged mr_begin mr_end mr_fork_size mr_fork mr_forget mr_save_size mr_save mr_load""".split()
+    mh_purged mr_begin mr_end mr_fork_size mr_fork mr_forget mr_save_size mr_save mr_load mr_other_zone
+    mr_set_system_zone mr_first_loaded""".split()
 )
 # the calls of crates/mac_base that only the host or a script makes
 HOST_CALLS = {"Deref", "Poke", "Peek", "ZoneMap", "NewHandleOf", "SetHandleTo", "Append"}

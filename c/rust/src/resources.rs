@@ -33,7 +33,7 @@ pub struct ResInfo {
 }
 
 /// Resource files, 255 at most, with their forks in memory. What isn't written when they are dropped stays unwritten. Each call is
-/// given the same zone, and handles that may be of resources are disposed of by `dispose_handle` of this type.
+/// given the zone of its resource (`MR_OTHER_ZONE` says if that is another), and handles that may be of resources are disposed of by `dispose_handle` of this type.
 pub struct Files(MrFiles);
 
 /// Whether the resource of a call that read or wrote its bytes is in memory.
@@ -82,6 +82,25 @@ impl Files {
         let mut files = Files(MR_NO_FILES);
         told(unsafe { sys::mr_load(&mut files.0, &mut zone.0, bytes.as_ptr(), bytes.len()) })?;
         Ok(files)
+    }
+
+    /// An address in the zone over which the last call has to be made that was `MR_OTHER_ZONE`.
+    pub fn other_zone(&mut self) -> Result<u32> {
+        let mut address = 0;
+        told(unsafe { sys::mr_other_zone(&mut self.0, &mut address) })?;
+        Ok(address)
+    }
+
+    /// Says which address the system zone has, where resources with resSysHeap are loaded from then on; 0 for none.
+    pub fn set_system_zone(&mut self, address: u32) -> Result<()> {
+        told(unsafe { sys::mr_set_system_zone(&mut self.0, address) })
+    }
+
+    /// The first handle that a resource has in a zone, if any has: before a zone ends each is disposed of.
+    pub fn first_loaded(&mut self, zone: &mut Zone) -> Option<u32> {
+        let mut handle = 0;
+        told(unsafe { sys::mr_first_loaded(&mut self.0, &mut zone.0, &mut handle) }).ok()?;
+        Some(handle)
     }
 
     pub fn get_named_resource(&mut self, zone: &mut Zone, kind: ResType, name: &[u8]) -> Result<u32> {

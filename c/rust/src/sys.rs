@@ -51,6 +51,7 @@ pub const MR_RES_ATTR_ERR: i16 = -198;
 pub const MR_MAP_READ_ERR: i16 = -199;
 pub const MR_TOO_BIG: i16 = -1001;
 pub const MR_BAD_STATE: i16 = -1003;
+pub const MR_OTHER_ZONE: i16 = -1004;
 pub const MH_PARAM_ERR: i16 = -50;
 pub const MH_MEM_FULL_ERR: i16 = -108;
 pub const MH_NIL_HANDLE_ERR: i16 = -109;
@@ -186,6 +187,9 @@ unsafe extern "C" {
     pub fn mr_save_size(files: &mut MrFiles, zone: &mut MhZone, size: &mut usize) -> i16;
     pub fn mr_save(files: &mut MrFiles, zone: &mut MhZone, bytes: *mut u8, count: usize) -> i16;
     pub fn mr_load(files: &mut MrFiles, zone: &mut MhZone, bytes: *const u8, count: usize) -> i16;
+    pub fn mr_other_zone(files: &mut MrFiles, address: &mut u32) -> i16;
+    pub fn mr_set_system_zone(files: &mut MrFiles, address: u32) -> i16;
+    pub fn mr_first_loaded(files: &mut MrFiles, zone: &mut MhZone, handle: &mut u32) -> i16;
     pub fn mr_get_named_resource(files: &mut MrFiles, zone: &mut MhZone, kind: ResType, name: *const u8, length: usize, handle: &mut u32) -> i16;
     pub fn mr_get1_named_resource(files: &mut MrFiles, zone: &mut MhZone, kind: ResType, name: *const u8, length: usize, handle: &mut u32) -> i16;
     pub fn mr_get_res_info(files: &mut MrFiles, zone: &mut MhZone, handle: u32, info: &mut MrInfo, name: *mut u8, room: usize) -> i16;

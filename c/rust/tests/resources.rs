@@ -115,6 +115,21 @@ fn some_bytes_are_written_to_the_fork() {
 }
 
 #[test]
+fn resources_are_in_several_zones() {
+    let fork = fork_with(&[(TEXT, 128, b"Read Me", b"Hello"), (STR, -5, b"", b"\x03Mac")]);
+    let (mut one, mut files) = (zone(), Files::new().unwrap());
+    let mut other = Zone::new(0x40000, 4096, 4096, 24).unwrap();
+    files.open(&mut one, &fork).unwrap();
+    assert_eq!(files.other_zone(), Err(OsErr(sys::MH_PARAM_ERR)));
+    let text = files.get_resource(&mut other, TEXT, 128).unwrap();
+    assert_eq!(files.get_resource(&mut one, TEXT, 128), Err(OsErr(sys::MR_OTHER_ZONE)));
+    assert_eq!(files.other_zone(), Ok(text));
+    assert_eq!((files.first_loaded(&mut one), files.first_loaded(&mut other)), (None, Some(text)));
+    files.set_system_zone(0x40000).unwrap();
+    assert!(files.get_resource(&mut one, STR, -5).is_ok());
+}
+
+#[test]
 fn files_are_saved_and_loaded() {
     let fork = fork_with(&[(TEXT, 128, b"Read Me", b"Hello"), (STR, -5, b"", b"\x03Mac")]);
     let (mut zone, mut files) = (zone(), Files::new().unwrap());

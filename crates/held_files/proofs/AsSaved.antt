@@ -11,7 +11,7 @@ use Rattle.fork_disk.specs.declared.store.PlainStore.{PlainStore}
 use Rattle.held_files.specs.Forks.{ForksState, seen_on, no_zones}
 use Rattle.held_files.specs.declared.elsewhere.OtherZones.{OtherZones}
 use Rattle.held_files.specs.Saving.{AreAsSaved, CantBeSaved, IsSavedOver, saved_of}
-use Rattle.mac_base.specs.HandleTable.{HandleTable}
+use Rattle.mac_base.specs.ZoneState.{ZoneState}
 use Rattle.res_files.specs.FilesOn.{FilesOn}
 use Rattle.res_files.specs.Standing.{StandsOn, StandOn, files_on}
 use Rattle.res_table.specs.declared.chain.OpenFile.{OpenFile}
@@ -87,21 +87,21 @@ same_saved zones on now is chain stores loads stores_are loads_are =
 
 -- files that can't be saved
 pub cant-seen : (zones : OtherZones) (on : FilesOn Store) (now : ForksState) → seen_on zones on ≡ now → (chain : OpenFiles Place) (stores : List Store) (loads : Bool) → stores ≡ on.stores → loads ≡ on.loads
-    → on.files ≡ files_on (map disk_of on.stores) chain → OnStores on.stores chain → (over table : HandleTable) → over ≡ table
+    → on.files ≡ files_on (map disk_of on.stores) chain → OnStores on.stores chain → (over table : ZoneState) → over ≡ table
     → ¬ CanBeSaved over (record { chain = chain; loads = loads; disks = map disk_of stores }) → CantBeSaved table now
 cant-seen zones on now is chain stores loads stores_are loads_are seen placed over table over_is cant = record {
   chain = chain;
   seen = subst (λ (s : ForksState). s.files ≡ files_on s.disks chain) is seen;
   placed = subst (λ (s : ForksState). StandOnForks s.disks chain) is (on_forks on.stores chain placed);
-  cant = subst (λ (t : HandleTable). ¬ CanBeSaved t (saved_of now chain)) over_is
+  cant = subst (λ (t : ZoneState). ¬ CanBeSaved t (saved_of now chain)) over_is
       (subst (λ (s : Saved). ¬ CanBeSaved over s) (same_saved zones on now is chain stores loads stores_are loads_are) cant);
 }
 
 -- files that are made of bytes
-pub loads-seen : (over table : HandleTable) → over ≡ table → (bytes : List ℕ) (files : SavedFiles) (new : ForksState)
+pub loads-seen : (over table : ZoneState) → over ≡ table → (bytes : List ℕ) (files : SavedFiles) (new : ForksState)
     → new ≡ seen_on no_zones (record { files = files_on (map disk_of files.stores.items) files.chain; loads = files.loads; stores = files.stores.items })
     → IsSavedAs over (saved_in files) bytes → ((s : Saved) → IsSavedAs over s bytes → saved_in files ≡ s) → AreAsSaved table bytes new
-loads-seen over table over_is bytes files new new_is saved same = subst (λ (t : HandleTable). AreAsSaved t bytes new) over_is (subst (λ (n : ForksState). AreAsSaved over bytes n) (sym new_is) (record {
+loads-seen over table over_is bytes files new new_is saved same = subst (λ (t : ZoneState). AreAsSaved t bytes new) over_is (subst (λ (n : ForksState). AreAsSaved over bytes n) (sym new_is) (record {
   saved = record { chain = files.chain; seen = refl; saved = saved };
   same = λ other was.
       let one = same (saved_of other was.chain) was.saved in
@@ -110,5 +110,5 @@ loads-seen over table over_is bytes files new new_is saved same = subst (λ (t :
 }))
 
 -- bytes of no files
-pub none-seen : (over table : HandleTable) → over ≡ table → (bytes : List ℕ) → ((s : Saved) → ¬ IsSavedAs over s bytes) → (other : ForksState) → ¬ IsSavedOver table other bytes
-none-seen over table over_is bytes none = subst (λ (t : HandleTable). (other : ForksState) → ¬ IsSavedOver t other bytes) over_is (λ other was. none (saved_of other was.chain) was.saved)
+pub none-seen : (over table : ZoneState) → over ≡ table → (bytes : List ℕ) → ((s : Saved) → ¬ IsSavedAs over s bytes) → (other : ForksState) → ¬ IsSavedOver table other bytes
+none-seen over table over_is bytes none = subst (λ (t : ZoneState). (other : ForksState) → ¬ IsSavedOver t other bytes) over_is (λ other was. none (saved_of other was.chain) was.saved)

@@ -1,5 +1,5 @@
 -- Over which zone a call has to be made, where resources are in several.
-use Rattle.std.specs.Prelude.{◌≡◌, ◌≤◌, ◌<◌, ℕ, ◌+◌, Bool, true, not, ◌&&◌, nat_le, nat_lt, List, filter, find, Option, None, Some, if◌then◌else◌, option_and_then, option_map}
+use Rattle.std.specs.Prelude.{◌≡◌, ◌≤◌, ◌<◌, ℕ, Bool, true, not, List, filter, find, Option, None, Some, if◌then◌else◌, option_and_then, option_map}
 use Rattle.std.specs.Option.{option_or, option_map_or}
 use Rattle.held_files.specs.Forks.{ForksState}
 use Rattle.held_files.specs.declared.elsewhere.Side.{Side}
@@ -24,14 +24,11 @@ use Rattle.res_update.specs.Sought.{place_sought}
 use Rattle.res_update.specs.Tests.{is_id}
 use Rattle.res_update.specs.Updates.{handles_of}
 use Rattle.res_update.specs.declared.seeking_call.SeekingCall.{SeekingCall}
+use Rattle.saved_files.specs.Addresses.{has_address}
 
 -- resSysHeap: the resource is loaded into the system zone
 abbrev pub res_sys_heap : ℕ
 res_sys_heap = 64
-
--- whether an address is one of a zone's
-abbrev pub has_address : Shape → ℕ → Bool
-has_address shape at = nat_le shape.base at && nat_lt at (shape.base + shape.limit)
 
 -- an address that is none of a zone's
 abbrev pub outside : Shape → ℕ → Option ℕ

@@ -2,7 +2,7 @@
 
 ghost use Rattle.std.specs.Prelude.{◌≡◌, Some, option_and_then};
 ghost use Rattle.held_files.specs.Forks.{no_zones};
-ghost use Rattle.held_files.specs.Elsewhere.{IsFirstLoaded, elsewhere, first_on, handle_outside, has_address, if_open, is_on, named_outside, outside, place_got, place_outside, reaches, sought_elsewhere};
+ghost use Rattle.held_files.specs.Elsewhere.{IsFirstLoaded, elsewhere, first_on, handle_outside, if_open, is_on, named_outside, outside, place_got, place_outside, reaches, sought_elsewhere};
 ghost use Rattle.mac_base.specs.ZoneSizes.{shape_of};
 ghost use Rattle.mac_base.specs.declared.resource_call.ResourceCall.TheVariants.{Changing, Writing};
 ghost use Rattle.res_table.specs.OpenFiles.{row_at};
@@ -20,6 +20,7 @@ use res_files::MOST_FILES;
 use res_manager::find_place;
 use res_table::chain::RowPlace;
 use res_update::{PatchingCall, SeekingCall};
+use saved_files::has_address;
 
 /// How a call over a zone ends.
 #[derive(Drop)]
@@ -67,13 +68,6 @@ enum Side {
     Inside,
     /// Outside it.
     Outside,
-}
-
-/// Whether a zone has an address.
-fn has_address(zone: ZoneSpec, address: u32) -> bool
-    ensures { result ≡ has_address (shape_of zone) address }
-{
-    zone.base() <= address && address - zone.base() < zone.limit()
 }
 
 /// Whether a handle is on this side of a zone.

@@ -390,11 +390,12 @@ impl ForkFiles {
     ghost use Rattle.held_files.specs.Saving.{AreAsSaved, CantBeSaved, IsSavedOver};
 
     /// The files as bytes, in the format of `saved_files`, over the zone of a session. The fault is NotSound exactly
-    /// where they can't be saved over it: a handle of a row isn't live, or another row has it, or the rows of a file fit
+    /// where they can't be saved over it: a handle of a row that is in the zone isn't live, or another row has a
+    /// row's handle, or the rows of a file fit
     /// no fork, or files are open and none is the current one.
     pub fn save(&self, alloc: Global, session: &Session) -> Result<Vec<u8>, SaveFault>
-        ensures saved { IfOk result (λ bytes. IsSavedOver session.now.zone.heap.table self.now bytes.items) }
-        ensures refused { IsErrOf result SaveFault.NotSound → CantBeSaved session.now.zone.heap.table self.now }
+        ensures saved { IfOk result (λ bytes. IsSavedOver session.now.zone self.now bytes.items) }
+        ensures refused { IsErrOf result SaveFault.NotSound → CantBeSaved session.now.zone self.now }
     {
         saved_files::save(
             alloc,
@@ -408,8 +409,8 @@ impl ForkFiles {
     /// The files of which these bytes were saved over the zone of a session, as they were. The fault is NotSound exactly
     /// where no files that can be saved over it are saved as these bytes.
     pub fn load(alloc: Global, session: &Session, bytes: &[u8]) -> Result<Box<ForkFiles>, SaveFault>
-        ensures loaded { IfOk result (λ files. AreAsSaved session.now.zone.heap.table bytes.now files.value) }
-        ensures refused { IsErrOf result SaveFault.NotSound → (other : ForksState) → ¬ IsSavedOver session.now.zone.heap.table other bytes.now }
+        ensures loaded { IfOk result (λ files. AreAsSaved session.now.zone bytes.now files.value) }
+        ensures refused { IsErrOf result SaveFault.NotSound → (other : ForksState) → ¬ IsSavedOver session.now.zone other bytes.now }
     {
         let SavedFiles {
             chain,

@@ -1,3 +1,4 @@
+pub mod Addresses
 pub mod Saved
 pub mod Sound
 pub mod Parts

@@ -4,7 +4,7 @@ ghost use Rattle.std.specs.Prelude.{◌≡◌, ◌≤◌, ◌+◌, ◌++◌, ◌
 ghost use Rattle.std.specs.List.{AllByRecursion, flat_map};
 ghost use Rattle.std.specs.Option.{IsSomeAnd};
 ghost use Rattle.fork_bytes.specs.declared.place.Place.{Place};
-ghost use Rattle.mac_base.specs.HandleTable.{HandleTable};
+ghost use Rattle.mac_base.specs.ZoneState.{ZoneState};
 ghost use Rattle.res_files.specs.Standing.{most_files};
 ghost use Rattle.res_table.specs.OpenFiles.{OpenFiles, is_open};
 ghost use Rattle.res_update.specs.Device.{Disk};
@@ -170,7 +170,7 @@ fn with_current(mut chain: Chain<Place>, current: Option<u8>) -> Chain<Place>
 fn files_in(alloc: Global, bytes: &[u8]) -> Result<SavedFiles, SaveFault>
     ensures stands { IfOk result (λ files. StandOnForks (map disk_of files.stores.items) files.chain) }
     ensures count { IfOk result (λ files. length files.stores.items ≡ most_files) }
-    ensures again { (s : Saved) (table : HandleTable) → CanBeSaved table s → bytes.now ≡ saved_text s
+    ensures again { (s : Saved) (zone : ZoneState) → CanBeSaved zone s → bytes.now ≡ saved_text s
         → MatchResult result (λ files. saved_in files ≡ s) (λ fault. fault ≡ SaveFault.HostFull) }
 {
     let Some((first, rest)) = block_at(bytes) else {
@@ -194,9 +194,9 @@ fn files_in(alloc: Global, bytes: &[u8]) -> Result<SavedFiles, SaveFault>
 /// The files of which these bytes were saved over a zone, as they were. The fault is NotSound exactly where no files
 /// that can be saved over it are saved as these bytes.
 pub fn load(alloc: Global, zone: &LinkedZone, bytes: &[u8]) -> Result<SavedFiles, SaveFault>
-    ensures saved { IfOk result (λ files. IsSavedAs zone.now.heap.table (saved_in files) bytes.now) }
-    ensures same { IfOk result (λ files. (s : Saved) → IsSavedAs zone.now.heap.table s bytes.now → saved_in files ≡ s) }
-    ensures refused { IsErrOf result SaveFault.NotSound → (s : Saved) → ¬ IsSavedAs zone.now.heap.table s bytes.now }
+    ensures saved { IfOk result (λ files. IsSavedAs zone.now (saved_in files) bytes.now) }
+    ensures same { IfOk result (λ files. (s : Saved) → IsSavedAs zone.now s bytes.now → saved_in files ≡ s) }
+    ensures refused { IsErrOf result SaveFault.NotSound → (s : Saved) → ¬ IsSavedAs zone.now s bytes.now }
 {
     let files = files_in(alloc, bytes)?;
     let again = save(alloc, zone, &files.chain, &files.stores, files.loads)?;

@@ -88,8 +88,8 @@ fn push_files(
 }
 
 /// The bytes of open files on these stores, over a zone. The fault is NotSound exactly where they can't be saved over
-/// it: the rows of a file fit no fork, or a handle of a row isn't live, or another row has it, or files are open and none
-/// is the current one.
+/// it: the rows of a file fit no fork, or a handle that is in the zone isn't live, or two rows have it, or files are open
+/// and none is the current one.
 pub fn save(
     alloc: Global,
     zone: &LinkedZone,
@@ -100,8 +100,8 @@ pub fn save(
     requires stands { StandOnForks (map disk_of stores.now) chain.now }
     requires count { length stores.now ≡ most_files }
     ensures saved { IfOk result (λ bytes. bytes.items ≡ saved_text (record { chain = chain.now; loads = loads; disks = map disk_of stores.now })) }
-    ensures can { IfOk result (λ _. CanBeSaved zone.now.heap.table (record { chain = chain.now; loads = loads; disks = map disk_of stores.now })) }
-    ensures refused { IsErrOf result SaveFault.NotSound → ¬ CanBeSaved zone.now.heap.table (record { chain = chain.now; loads = loads; disks = map disk_of stores.now }) }
+    ensures can { IfOk result (λ _. CanBeSaved zone.now (record { chain = chain.now; loads = loads; disks = map disk_of stores.now })) }
+    ensures refused { IsErrOf result SaveFault.NotSound → ¬ CanBeSaved zone.now (record { chain = chain.now; loads = loads; disks = map disk_of stores.now }) }
 {
     if !are_sound(chain, zone) || !has_current(chain) {
         return Err(SaveFault::NotSound);

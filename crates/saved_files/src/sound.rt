@@ -2,10 +2,13 @@
 
 ghost use Rattle.std.specs.Prelude.{◌≡◌, ◌↔◌, ◌+◌, ◌≤◌, All, IsTrue, Some};
 ghost use Rattle.std.specs.List.{AllByRecursion};
+ghost use Rattle.mac_base.specs.HandleTable.{is_handle};
 ghost use Rattle.res_table.specs.OpenFiles.{place_of_handle};
+ghost use Rattle.saved_files.specs.Addresses.{has_address};
 ghost use Rattle.res_update.specs.Placed.{AreNear, IsNear};
 ghost use Rattle.saved_files.specs.Sound.{HasCurrent, IsSoundAt, IsSoundFile};
 
+use crate::addresses::has_address;
 use fork_bytes::layout::MAX_FORK;
 use fork_bytes::place::Place;
 use linked_zone::LinkedZone;
@@ -24,7 +27,15 @@ fn is_found_at(chain: &Chain<Place>, handle: Handle, number: u8, index: usize) -
     }
 }
 
-/// Whether the handle of the row of a file at an index, if it has one, is live, and no other row has it.
+/// Whether a handle is live, if it is in the zone.
+fn is_live_if_here(zone: &LinkedZone, handle: Handle) -> bool
+    ensures { IsTrue result ↔ (IsTrue (has_address zone.now.shape handle) → IsTrue (is_handle zone.now.heap.table handle)) }
+{
+    !has_address(zone.spec(), handle.number()) || zone.is_live(handle)
+}
+
+/// Whether the handle of the row of a file at an index, if it has one, is live, if it is in the zone, and no other row has
+/// it.
 fn is_sound_at(
     chain: &Chain<Place>,
     zone: &LinkedZone,
@@ -32,17 +43,19 @@ fn is_sound_at(
     index: usize,
     row: &Row<Place>,
 ) -> bool
-    ensures { IsTrue result ↔ IsSoundAt zone.now.heap.table chain.now number index row.now }
+    ensures { IsTrue result ↔ IsSoundAt zone.now chain.now number index row.now }
 {
     match row.handle {
-        Some(handle) => zone.is_live(handle) && is_found_at(chain, handle, number, index),
+        Some(handle) => {
+            is_live_if_here(zone, handle) && is_found_at(chain, handle, number, index)
+        }
         None => true,
     }
 }
 
-/// Whether each handle of a file's rows is live, and no other row has it.
+/// Whether each handle of a file's rows is live, if it is in the zone, and no other row has it.
 fn is_sound_file(chain: &Chain<Place>, zone: &LinkedZone, file: &OpenFile<Place>) -> bool
-    ensures { IsTrue result ↔ IsSoundFile zone.now.heap.table chain.now file.now }
+    ensures { IsTrue result ↔ IsSoundFile zone.now chain.now file.now }
 {
     let rows = &file.table.rows;
     for index in 0..rows.len() {
@@ -53,9 +66,9 @@ fn is_sound_file(chain: &Chain<Place>, zone: &LinkedZone, file: &OpenFile<Place>
     true
 }
 
-/// Whether each handle of a row is live, and no other row has it.
+/// Whether each handle of a row is live, if it is in the zone, and no other row has it.
 pub(crate) fn are_sound(chain: &Chain<Place>, zone: &LinkedZone) -> bool
-    ensures { IsTrue result ↔ AllByRecursion (IsSoundFile zone.now.heap.table chain.now) chain.now.files }
+    ensures { IsTrue result ↔ AllByRecursion (IsSoundFile zone.now chain.now) chain.now.files }
 {
     chain
         .files()

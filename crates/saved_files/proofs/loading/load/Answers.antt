@@ -10,7 +10,7 @@ use Rattle.saved_files.proofs.loading.load.Goals as goal
 pub returns-then-ne-clause-refused : goal.returns-then-ne-clause-refused
 returns-then-ne-clause-refused c = λ bad s saved.
     let files = c.in_ok-files.files in
-    let same = c.in_ok-files.ensures.again s c.args.zone.now.heap.table saved.0 saved.1 in
+    let same = c.in_ok-files.ensures.again s c.args.zone.now saved.0 saved.1 in
     let text : c.as_slice.result.now ≡ c.args.bytes.now =
     c.as_slice.ensures.value ∙ c.in_ok-again.ensures.saved
     ∙ ap (λ (xs : List (PlainStore MemDisk)). saved_text (record { chain = files.chain; loads = files.loads; disks = map disk_of xs })) c.deref.ensures.value
@@ -19,4 +19,4 @@ returns-then-ne-clause-refused c = λ bad s saved.
     absurd (cc (c.ne.ensures, equal, c.if-ne.true))
 
 pub returns-clause-same : goal.returns-clause-same
-returns-clause-same c = λ s saved. c.in_ok-files.ensures.again s c.args.zone.now.heap.table saved.0 saved.1
+returns-clause-same c = λ s saved. c.in_ok-files.ensures.again s c.args.zone.now saved.0 saved.1

@@ -6,4 +6,4 @@ use Rattle.saved_files.proofs.sound.is_sound_file.Given as goal
 
 -- so it is of each row so far
 abbrev pub invariant-loop-index : goal.invariant-loop-index
-invariant-loop-index l = (k : ℕ) (r : Row Place) → k < l.index → slice_get l.file.table.rows k ≡ Some r → IsSoundAt l.zone.heap.table l.chain l.file.number k r
+invariant-loop-index l = (k : ℕ) (r : Row Place) → k < l.index → slice_get l.file.table.rows k ≡ Some r → IsSoundAt l.zone l.chain l.file.number k r

@@ -10,7 +10,7 @@ returns-in-Err-clause-loads c =
     let fault = c.in-Err.fault in
     let session = c.in_ok-session.session.value in
     let Said : Option State → Option ForksState → Type 0 = λ zone files. Loads zone files c.args.bytes.now (Some (Err fault)) c.take.new.self.held.files in
-    let refused : fault ≡ NotSound → (other : ForksState) → ¬ IsSavedOver c.deref.result.now.zone.heap.table other c.args.bytes.now = λ is. c.in-Err.ensures.refused (cc) in
-    let none = subst (λ (s : State). fault ≡ NotSound → (other : ForksState) → ¬ IsSavedOver s.zone.heap.table other c.args.bytes.now) c.deref.ensures refused in
+    let refused : fault ≡ NotSound → (other : ForksState) → ¬ IsSavedOver c.deref.result.now.zone other c.args.bytes.now = λ is. c.in-Err.ensures.refused (cc) in
+    let none = subst (λ (s : State). fault ≡ NotSound → (other : ForksState) → ¬ IsSavedOver s.zone other c.args.bytes.now) c.deref.ensures refused in
     let said : Said (Some session) c.args.self.now.held.files = subst (λ (files : Option ForksState). Said (Some session) files) (sym c.in_default.ensures.given) (c.take.ensures.none, none) in
     subst (λ (zone : Option State). Said zone c.args.self.now.held.files) (sym c.in_ok-session.ensures.given) said
