@@ -1,9 +1,9 @@
 /* Several zones for one set of files: the system's, and two of applications, whose blocks have headers of 8 and of 12 bytes. 100,000 random
  * calls, each over a zone that is picked at random, are compared with a model that is written from the rules: each resource has its bytes
  * in its fork, and perhaps a handle, bytes and a mark in the zone where it was loaded; a call over another one is MR_OTHER_ZONE, names the
- * handle and changes nothing. Amid them handles are disposed of, zones end and begin anew, files are updated, closed and opened again, and
- * all is saved and loaded. Then each call that a zone can be wrong for is made over a wrong one. It prints a line for each that differs, and
- * ends with status 1 then. */
+ * handle and changes nothing. Amid them handles are disposed of, zones end and begin anew, blocks are purged, at once or in turn, files are
+ * updated, closed and opened again, and all is saved and loaded. Then each call that a zone can be wrong for is made over a wrong one. It
+ * prints a line for each that differs, and ends with status 1 then. */
 #include "checks.h"
 #include "macheap_fork.h"
 #include "resman.h"
@@ -15,7 +15,7 @@ enum { ZONES = 3, FILES = 3, IDS = 10, MOST = 120, SYS_HEAP = 64, FORK = 0x10000
 
 /* A resource of the model: its bytes in the fork, and in the zone that has its handle, if any has. */
 typedef struct Resource {
-    bool there, changed, full;
+    bool there, changed, full, purgeable;
     uint8_t attributes;
     int zone;
     uint32_t handle;
@@ -72,6 +72,7 @@ static void shows(const Resource *own) {
 /* A resource's own bytes are those of its fork: it was loaded, or never had others. */
 static void loads(Resource *own) {
     own->full = true;
+    own->purgeable = false;
     own->length = own->fork_length;
     memcpy(own->bytes, own->fork, own->fork_length);
 }
@@ -121,13 +122,12 @@ static bool is_here(MhErr code, int zone, const Resource *own, MhErr wanted) {
     return false;
 }
 
-/* A changed resource is written: its fork has the bytes of its block, if it has one. */
+/* A changed resource is written: its fork has the bytes of its block, and none where it has no block. */
 static void writes(Resource *own) {
-    bool written = own->changed && own->handle && own->full;
+    if (!own->changed) return;
     own->changed = false;
-    if (!written) return;
-    own->fork_length = own->length;
-    memcpy(own->fork, own->bytes, own->length);
+    own->fork_length = own->handle && own->full ? own->length : 0;
+    memcpy(own->fork, own->bytes, own->fork_length);
 }
 
 /* The first resource of a file that is in another zone than this, of the changed ones or of all, or null. */
@@ -248,6 +248,47 @@ static void saves(int zone) {
     IS(mr_set_system_zone(&files, system_known ? bases[0] : 0), MH_NO_ERR);
 }
 
+/* The resource of a handle, or null. */
+static Resource *of_handle(uint32_t handle) {
+    for (int file = 1; file <= FILES; file++) {
+        for (int id = 0; id < IDS; id++) {
+            if (model[file][id].there && model[file][id].handle == handle) return &model[file][id];
+        }
+    }
+    return NULL;
+}
+
+/* All that may be purged in a zone is, perhaps one by one, since purges are held. */
+static void purges(int zone) {
+    uint32_t handle = 0, handles[FILES * IDS], count = 0, wanted = 0;
+    MhErr code;
+    for (int file = 1; file <= FILES; file++) {
+        for (int id = 0; id < IDS; id++) {
+            const Resource *own = &model[file][id];
+            wanted += own->there && own->handle && own->zone == zone && own->full && own->purgeable;
+        }
+    }
+    bool holds = below(2) != 0;
+    IS(mh_hold_purges(&zones[zone], holds), MH_NO_ERR);
+    while ((code = mh_purge_mem(&zones[zone], 0x800000)) == MH_WOULD_PURGE && wanted-- > 0) {
+        IS(holds, true);
+        IS(mh_would_purge(&zones[zone], &handle), MH_NO_ERR);
+        Resource *own = of_handle(handle);
+        IS(own && own->zone == zone && own->full && own->purgeable, true);
+        IS(mh_empty_handle(&zones[zone], handle), MH_NO_ERR);
+        own->full = false;
+    }
+    IS(code, MH_MEM_FULL_ERR);
+    IS(mh_purged(&zones[zone], handles, FILES * IDS, &count), MH_NO_ERR);
+    IS(count, holds ? 0 : wanted);
+    for (uint32_t n = 0; n < count; n++) {
+        Resource *own = of_handle(handles[n]);
+        IS(own && own->zone == zone && own->full && own->purgeable, true);
+        own->full = false;
+    }
+    IS(mh_hold_purges(&zones[zone], 0), MH_NO_ERR);
+}
+
 /* A resource with a handle, or null. */
 static Resource *any_loaded(int *file) {
     *file = 1 + (int)below(FILES);
@@ -298,7 +339,7 @@ static void changes(Resource *own, int zone) {
 static void uses(int file, Resource *own, int zone) {
     uint32_t handle = own->handle;
     uint8_t bytes[MOST];
-    switch (below(10)) {
+    switch (below(11)) {
         case 0:
             if (is_here(mr_write_resource(&files, &zones[zone], handle), zone, own, MH_NO_ERR)) writes(own);
             return;
@@ -335,6 +376,11 @@ static void uses(int file, Resource *own, int zone) {
             if (own->fork_length == 0) return;
             if (is_here(mr_write_partial_resource(&files, &zones[zone], handle, 0, bytes, 1), zone, own, own->full ? MR_RESOURCE_IN_MEMORY : MH_NO_ERR)) own->fork[0] = bytes[0];
             return;
+        case 9:
+            if (!own->full) return;
+            own->purgeable = !own->purgeable;
+            IS((own->purgeable ? mh_hpurge : mh_hno_purge)(&zones[own->zone], handle), MH_NO_ERR);
+            return;
         default: changes(own, zone);
     }
 }
@@ -355,7 +401,8 @@ static void random_call(void) {
     else if (which < 396) {
         current = 1 + (int)below(FILES);
         IS(mr_use_res_file(&files, &zones[zone], (uint32_t)current), MH_NO_ERR);
-    } else if (which < 397) {
+    } else if (which < 398) purges(zone);
+    else if (which < 399) {
         system_known = !system_known;
         IS(mr_set_system_zone(&files, system_known ? bases[0] : 0), MH_NO_ERR);
     }

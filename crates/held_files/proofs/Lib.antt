@@ -5,3 +5,4 @@ pub mod Seeking
 mod Reading
 mod Patching
 mod AsSaved
+pub mod Outside

@@ -1,5 +1,5 @@
 -- Over which zone a call has to be made, where resources are in several.
-use Rattle.std.specs.Prelude.{◌≡◌, ◌≤◌, ◌<◌, ℕ, Bool, true, not, List, filter, find, Option, None, Some, if◌then◌else◌, option_and_then, option_map}
+use Rattle.std.specs.Prelude.{◌≡◌, ◌≤◌, ◌<◌, ℕ, Bool, not, filter_map, find, Option, None, Some, if◌then◌else◌, option_and_then, option_map}
 use Rattle.std.specs.Option.{option_or, option_map_or}
 use Rattle.held_files.specs.Forks.{ForksState}
 use Rattle.held_files.specs.declared.elsewhere.Side.{Side}
@@ -15,14 +15,13 @@ use Rattle.mac_base.specs.declared.resource_call.ResourceCall.TheVariants.{Getti
 use Rattle.mac_base.specs.declared.resource_call.WritingCall.TheVariants.{WriteResource, UpdateResFile, CloseResFile}
 use Rattle.res_files.specs.Standing.{most_files}
 use Rattle.res_table.specs.OpenFiles.{is_open, place_of_handle, place_of_resource, place_here, row_at}
-use Rattle.res_table.specs.Rows.{index_of_ith, is_changed}
+use Rattle.res_table.specs.Rows.{changed_handle, index_of_ith}
 use Rattle.res_table.specs.declared.chain.RowPlace.{RowPlace}
 use Rattle.res_update.specs.Attributes.{has_bit}
 use Rattle.res_update.specs.Changes.{FileRow, Files, current_rows, row_of_handle, rows_of}
 use Rattle.res_update.specs.Files.{file_named}
 use Rattle.res_update.specs.Sought.{place_sought}
 use Rattle.res_update.specs.Tests.{is_id}
-use Rattle.res_update.specs.Updates.{handles_of}
 use Rattle.res_update.specs.declared.seeking_call.SeekingCall.{SeekingCall}
 use Rattle.saved_files.specs.Addresses.{has_address}
 
@@ -52,10 +51,10 @@ abbrev pub is_on : Shape → Side → ℕ → Bool
 is_on shape Inside h = has_address shape h
 is_on shape Outside h = not (has_address shape h)
 
--- whether an update or a close works on a row, where it has a handle
-abbrev pub reaches : Reach → FileRow → Bool
-reaches Changed r = is_changed r
-reaches All r = true
+-- the handle of a row that an update or a close works on
+abbrev pub handle_reached : Reach → FileRow → Option ℕ
+handle_reached Changed r = changed_handle r
+handle_reached All r = r.handle
 
 -- a file's number, if it is open
 abbrev pub if_open : Files → ℕ → Option ℕ
@@ -63,7 +62,7 @@ if_open files k = if is_open k files then Some k else None
 
 -- the first handle on this side of a zone, of those rows of a file that are reached
 abbrev pub first_on : Shape → Side → Reach → Files → ℕ → Option ℕ
-first_on shape side reach files k = find (is_on shape side) (handles_of (filter (reaches reach) (rows_of k files)))
+first_on shape side reach files k = find (is_on shape side) (filter_map (handle_reached reach) (rows_of k files))
 
 -- the first that is outside, in the file that is named, or else in the current one, if it is open
 abbrev pub named_outside : Shape → Reach → Option ℕ → Files → Option ℕ

@@ -1,8 +1,8 @@
 //! Over which zone a call has to be made, where resources are in several.
 
-ghost use Rattle.std.specs.Prelude.{◌≡◌, Some, option_and_then};
+ghost use Rattle.std.specs.Prelude.{◌≡◌, None, Some, if◌then◌else◌, option_and_then};
 ghost use Rattle.held_files.specs.Forks.{no_zones};
-ghost use Rattle.held_files.specs.Elsewhere.{IsFirstLoaded, elsewhere, first_on, handle_outside, if_open, is_on, named_outside, outside, place_got, place_outside, reaches, sought_elsewhere};
+ghost use Rattle.held_files.specs.Elsewhere.{IsFirstLoaded, elsewhere, first_on, handle_outside, if_open, is_on, named_outside, outside, handle_reached, place_got, place_outside, sought_elsewhere};
 ghost use Rattle.mac_base.specs.ZoneSizes.{shape_of};
 ghost use Rattle.mac_base.specs.declared.resource_call.ResourceCall.TheVariants.{Changing, Writing};
 ghost use Rattle.res_table.specs.OpenFiles.{row_at};
@@ -218,8 +218,10 @@ impl ForkFiles {
     fn first_on(&self, zone: ZoneSpec, side: Side, reach: Reach, number: u8) -> Option<u32>
         ensures { result ≡ first_on (shape_of zone) side reach self.now.files number }
     {
+        let files = self.files();
         let mut from = 0;
-        while let Some((index, handle)) = self.files().next_handle(number, from) {
+        while let Some(found) = files.next_handle(number, from) {
+            let (index, handle) = found;
             if is_on(zone, side, handle.number()) && self.reaches(reach, number, index) {
                 return Some(handle.number());
             }
@@ -228,9 +230,9 @@ impl ForkFiles {
         None
     }
 
-    /// Whether a call reaches the row at an index.
+    /// Whether a call works on the row of a file at an index, where that has a handle.
     fn reaches(&self, reach: Reach, file: u8, index: usize) -> bool
-        ensures { (row : FileRow) → row_at (record { file = file; index = index }) self.now.files ≡ Some row → result ≡ reaches reach row }
+        ensures { (row : FileRow) → row_at (record { file = file; index = index }) self.now.files ≡ Some row → (if result then row.handle else None) ≡ handle_reached reach row }
     {
         match (reach, self.files().row(RowPlace { file, index })) {
             (Reach::Changed, Some(row)) => row.resource.attributes.contains(ResAttrs::CHANGED),
