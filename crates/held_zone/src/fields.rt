@@ -84,7 +84,7 @@ impl GuestFields {
 
     /// Writes them in their places in a region, and no other byte.
     #[tactic(auto, using(raw_region::proofs::Rules::upkeep))]
-    pub(crate) fn write_in(&self, region: &mut Region)
+    pub fn write_in(&self, region: &mut Region)
         requires whole { region.old.lent ≡ [] }
         requires long { zone_header ≤ length region.old.bytes }
         ensures region { region.new ≡ fielded self.now region.old }
@@ -100,7 +100,7 @@ impl GuestFields {
 }
 
 /// Puts the guest's fields of a region aside: those of a new zone come in their places.
-pub(crate) fn put_aside(region: &mut Region) -> GuestFields
+pub fn put_aside(region: &mut Region) -> GuestFields
     requires whole { region.old.lent ≡ [] }
     requires long { zone_header ≤ length region.old.bytes }
     ensures fields { result ≡ fields_in region.old.bytes }
