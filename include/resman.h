@@ -82,12 +82,13 @@ MhErr mr_fork(MrFiles *files, uint32_t file, uint8_t *fork, size_t length);
 /* Save states, with mh_image or the guest's memory: all that the files are, as bytes. mr_save_size says how many there
  * are, and mr_save copies just so many; paramErr where `count` is another number. mr_load makes files of them where
  * none have begun (paramErr), over the same zone or one that has its handles, as one made of its bytes: each call does
- * then what it would have done without the pause, once mr_set_system_zone is called as before. Forks, those of closed files too, the files' numbers and order, the
- * current file, what mr_set_res_load set, and what each resource is, with its handle and whether it was changed, are
- * as they were. Call mr_forget before, if the zone's last call asked. It is MR_BAD_STATE where files can't be saved,
- * since a resource's handle that is in this zone isn't live, or two resources have one, or the names of a file have more bytes than a fork
- * can say; and where no mr_save over this zone copies these bytes, whoever wrote them. Nothing has changed then, nor
- * where the host has no memory (memFullErr). The bytes are this library's own; the 13th is their version. */
+ * then what it would have done without the pause, once mr_set_system_zone is called as before. Forks, those of closed
+ * files too, the files' numbers and order, the current file, what mr_set_res_load set, and what each resource is, with
+ * its handle and whether it was changed, are as they were. Call mr_forget before, if the zone's last call asked. It is
+ * MR_BAD_STATE where files can't be saved, since a handle of a resource that is in this zone isn't live, or two
+ * resources have one handle, or the names of a file have more bytes than a fork can say; and where no mr_save over this
+ * zone copies these bytes, whoever wrote them. Nothing has changed then, nor where the host has no memory (memFullErr).
+ * The bytes are this library's own; the 13th is their version. */
 MhErr mr_save_size(MrFiles *files, MhZone *zone, size_t *size);
 MhErr mr_save(MrFiles *files, MhZone *zone, uint8_t *bytes, size_t count);
 MhErr mr_load(MrFiles *files, MhZone *zone, const uint8_t *bytes, size_t count);
@@ -176,12 +177,11 @@ MhErr mr_close_res_file(MrFiles *files, MhZone *zone, uint32_t file);
  * or releases, detaches or removes it. mr_other_zone returns an address in the right zone: the resource's handle. Make
  * the call again over that zone. mr_update_res_file is MR_OTHER_ZONE where a changed resource of the file is in another
  * zone, and mr_close_res_file where any is: mr_other_zone returns the first one's handle. Write it by mr_write_resource
- * over its zone, and before the file is closed give it up by mr_release_resource; and so on with each. mr_set_system_zone
- * says which address the system zone has: from then on a resource with resSysHeap (64) that has no handle yet is got over
- * that zone alone. With 0, as at first, it is got as all others are. mr_first_loaded returns the first handle that a
- * resource has in a zone, and paramErr where there is none: before a zone ends, dispose of each. mr_save needs one zone
- * alone: then mr_save_size over each other one says whether the handles that are there are live, or it is
- * MR_BAD_STATE. */
+ * over its zone, and before the file is closed give it up by mr_release_resource; and so on with each.
+ * mr_set_system_zone says which address the system zone has: from then on a resource with resSysHeap (64) that has no
+ * handle yet is got over that zone alone. With 0, as at first, it is got as all others are. mr_first_loaded returns the
+ * first handle that a resource has in a zone, and paramErr where there is none: before a zone ends, dispose of each.
+ * mr_save needs one zone alone; mr_save_size over another one is MR_BAD_STATE where a handle that is there isn't live. */
 MhErr mr_other_zone(MrFiles *files, uint32_t *address);
 MhErr mr_set_system_zone(MrFiles *files, uint32_t address);
 MhErr mr_first_loaded(MrFiles *files, MhZone *zone, uint32_t *handle);

@@ -25,7 +25,7 @@ LINES = {
     "docs/DECISIONS.md": 60,
     "docs/DESIGN.md": 198,
     "docs/DIFFERENCES.md": 88,
-    "docs/EMULATORS.md": 99,
+    "docs/EMULATORS.md": 100,
     "docs/FILES.md": 135,
     "docs/FORMAT.md": 78,
     "docs/SCRIPT.md": 266,
