@@ -1,5 +1,5 @@
 -- Reads of some of a resource's bytes, of forks in memory: each device is honest.
-use Rattle.std.proofs.Common.{◌≡◌, ap, subst, ℕ, Bool, List, length, Result, Ok, Err}
+use Rattle.std.proofs.Common.{◌≡◌, refl, ap, subst, ℕ, Bool, List, length, Result, Ok, Err}
 use Rattle.std.specs.Prelude.{⊤}
 use Rattle.held_files.specs.Forks.{ForksState, failures_in, fork_in, seen_on}
 use Rattle.held_files.specs.declared.elsewhere.OtherZones.{OtherZones}

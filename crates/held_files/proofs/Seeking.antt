@@ -1,5 +1,5 @@
 -- Calls on forks in memory that seek a resource: each device is honest.
-use Rattle.std.proofs.Common.{◌≡◌, sym, subst, Bool, true, false, IsOkAnd, Result, Ok, Err}
+use Rattle.std.proofs.Common.{◌≡◌, refl, sym, subst, Bool, true, false, IsOkAnd, Result, Ok, Err}
 use Rattle.std.specs.Prelude.{MatchBool, map}
 use Rattle.fork_disk.specs.Fork.{IsPartly}
 use Rattle.held_calls.specs.Answers.{OutOfAnswers, taken}

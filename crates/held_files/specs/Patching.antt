@@ -1,5 +1,5 @@
 -- SetResourceSize and WritePartialResource over files whose forks are in memory.
-use Rattle.std.specs.Prelude.{◌≡◌, ◌⊎◌, ⊤, Option, Some, None, Result, Ok, Err, MatchBool}
+use Rattle.std.specs.Prelude.{◌≡◌, ◌⊎◌, ⊤, ℕ, Option, Some, None, Result, Ok, Err, MatchBool}
 use Rattle.fork_disk.specs.Fork.{IsPartly}
 use Rattle.held_files.specs.Forks.{ForksState}
 use Rattle.held_files.specs.Elsewhere.{handle_outside, needing}

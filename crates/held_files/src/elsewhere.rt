@@ -53,7 +53,7 @@ impl OtherZones {
 }
 
 /// Which rows of a file an update or a close works on, of those that have handles.
-#[derive(Clone, Copy, PartialEq, Eq)]
+#[derive(Clone, Copy)]
 enum Reach {
     /// Those that are changed.
     Changed,
