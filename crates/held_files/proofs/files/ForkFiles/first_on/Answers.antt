@@ -1,4 +1,4 @@
-use Rattle.std.proofs.Common.{◌≡◌, ◌∙◌, ◌+◌, ◌++◌, ◌∷◌, ap, sym, subst, drop, arith, Bool, None, Some, if◌then◌else◌}
+use Rattle.std.proofs.Common.{◌≡◌, ◌∙◌, ◌++◌, ◌∷◌, ap, sym, subst, drop, arith, Bool, None, Some, if◌then◌else◌}
 use Rattle.core.specs.List.{cons_option}
 use Rattle.std.specs.Prelude.{filter_map, find}
 use Rattle.mac_base.specs.ZoneSizes.{shape_of}
