@@ -1,5 +1,6 @@
 pub mod Ending
 pub mod Known
+pub mod Crashing
 pub mod Left
 pub mod Opening
 pub mod Starting
