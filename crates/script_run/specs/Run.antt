@@ -4,6 +4,7 @@ use Rattle.std.proofs.Common.{inl, inr}
 use Rattle.std.specs.List.{concat}
 use Rattle.mac_base.specs.declared.call.Call.TheVariants.{Resource}
 use Rattle.mac_base.specs.declared.resource_call.ResourceCall.TheVariants.{OpenResFile}
+use Rattle.mac_base.specs.Outcomes.{Outcome}
 use Rattle.fork_disk.specs.declared.store.ForkStore.{Ghosts}
 use Rattle.script_lang.specs.declared.line.Line.{Line}
 use Rattle.script_lang.specs.declared.line.Statement.{Statement}
@@ -37,10 +38,13 @@ abbrev pub turns_at : {S : Type 0} (store : Ghosts S) (old : Machine S) (lines :
 turns_at store old (line ∷ lines) (text ∷ texts) new run = turn_at store old line.number line.statement text run.0 run.1 ∷ turns_at store run.0 lines texts new run.2
 turns_at store old _ _ new run = []
 
+-- the turn in which file 1 is opened, by its outcome, the machine that it leaves and what it prints
+abbrev pub opening_turn : {S : Type 0} → Machine S → Outcome → List ℕ → Turn S
+opening_turn opened outcome text = Made (record { call = Resource (OpenResFile 1); asks = []; outcome = outcome; left = opened.toolbox }) text
+
 -- the turns of a run: the opening of file 1, and each line
 abbrev pub turns_of : {S : Type 0} (store : Ghosts S) (start : Machine S) (lines : List Line) (texts : List (List ℕ)) (new : Machine S) → IsRun store start lines texts new → List (Turn S)
-turns_of store start lines (text ∷ texts) new run =
-    Made (record { call = Resource (OpenResFile 1); asks = []; outcome = run.1.0; left = (run.0).toolbox }) text ∷ turns_at store run.0 lines texts new run.2
+turns_of store start lines (text ∷ texts) new run = opening_turn run.0 (run.1.0) text ∷ turns_at store run.0 lines texts new run.2
 turns_of store start lines [] new run = []
 
 -- A run as far as it came: from start, file 1 was opened and the first lines of the script were run, which print these

@@ -23,6 +23,10 @@ moment written stores = record { written = written; stores = stores }
 abbrev pub Noted : {S : Type 0} → List ℕ → List (Moment S) → List (Moment S) → List (Moment S) → Type 0
 Noted {S = S} before old noted new = new ≡ old ++ map (λ (m : Moment S). moment (before ++ m.written) m.stores) noted
 
+-- some moments were noted, of which this is so
+abbrev pub Notes : {S : Type 0} → List ℕ → List (Moment S) → List (Moment S) → (List (Moment S) → Type 0) → Type 0
+Notes {S = S} before old new So = (noted : List (Moment S)) × Noted before old noted new × So noted
+
 -- A turn of a run, at a line or where file 1 is opened: the call that was made and what it left, or no call, and the
 -- toolbox as it was then; and the text that was printed.
 pub data Turn (S : Type 0) : Type 0 where

@@ -57,13 +57,13 @@ impl<S: ForkStore> Machine<S> {
         ensures unchanged { OnErr result (SameForks S.ForkStore (stores_of self.old) (stores_of self.new)) }
     {
         moments.note(writer, self);
-        let opened = self.open(text);
+        let opened = self.open_file(text);
         moments.note(writer, self);
         opened
     }
 
     /// Opens file 1, and puts what that prints in place of the text: the line of number 0 where it is refused.
-    fn open(&mut self, text: &mut ReplyText) -> Result<(), HostFull>
+    fn open_file(&mut self, text: &mut ReplyText) -> Result<(), HostFull>
         ensures opens { OnOk result (OpensFirst S.ForkStore self.old text.new self.new) }
         ensures unchanged { OnErr result (SameForks S.ForkStore self.old.toolbox.resources.stores self.new.toolbox.resources.stores) }
     {

@@ -12,8 +12,7 @@ ghost use Rattle.script_run.specs.Recovery.{RunRecovers};
 ghost use Rattle.script_run.specs.Run.{Ends, Tells};
 ghost use Rattle.script_run.specs.Seen.{KeepsSeen};
 ghost use Rattle.script_run.specs.Starting.{TellsNoScript};
-ghost use Rattle.script_run.specs.Turns.{Noted, stores_of};
-ghost use Rattle.script_run.specs.declared.moments.Moment.{Moment};
+ghost use Rattle.script_run.specs.Turns.{Notes, stores_of};
 
 use crate::counted::Counted;
 use crate::end::RunEnd;
@@ -46,9 +45,9 @@ pub fn run<S: ForkStore, R: Read, W: Write>(
     // The input is the bytes that the reader says it has; where it doesn't say, those that it gave. What was written is
     // what the input's lines print from a new zone on, as far as the run came, and the stores are as they left them. Each
     // line's text was written once its call was done, and before the next line began: so say the moments that were noted.
-    ensures ends { (given : List ℕ) × (written : List ℕ) × (noted : List (Moment S)) × Gave R.remaining reader.old given reader.new
-        × Took W.contents writer.old written writer.new × Noted writer.old.passed moments.old noted moments.new
-        × Ends S.ForkStore (start_of spec stores.items) (unwrap_or (R.remaining reader.old.inner) given) result.0 written noted result.1.items }
+    ensures ends { (given : List ℕ) × (written : List ℕ) × Gave R.remaining reader.old given reader.new × Took W.contents writer.old written writer.new
+        × Notes writer.old.passed moments.old moments.new
+        (λ noted. Ends S.ForkStore (start_of spec stores.items) (unwrap_or (R.remaining reader.old.inner) given) result.0 written noted result.1.items) }
 
     // Whatever lines print is the replies of calls over which every handle and pointer shows the bytes last put there,
     // pointers and locked handles stay where they are, and blocks are lost and memFullErr is given only where they may.
@@ -99,8 +98,8 @@ fn run_lines<S: ForkStore, W: Write>(
     writer: &mut Counted<W>,
     moments: &mut Moments<S>,
 ) -> RunEnd
-    ensures ends { (written : List ℕ) × (noted : List (Moment S)) × Took W.contents writer.old written writer.new × Noted writer.old.passed moments.old noted moments.new
-        × ((input : List ℕ) → IsScript input script.now → Ends S.ForkStore machine.old input result written noted (stores_of machine.new)) }
+    ensures ends { (written : List ℕ) × Took W.contents writer.old written writer.new × Notes writer.old.passed moments.old moments.new
+        (λ noted. (input : List ℕ) → IsScript input script.now → Ends S.ForkStore machine.old input result written noted (stores_of machine.new)) }
     ensures no_read_fault { result ≢ RunEnd.ReadFault }
     ensures write_fault { result ≡ RunEnd.WriteFault → RoseByOne writer.old.failures writer.new.failures }
     ensures no_write_failed { result ≢ RunEnd.WriteFault → writer.new.failures ≡ writer.old.failures }
