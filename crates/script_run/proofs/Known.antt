@@ -29,10 +29,6 @@ Took-then contents old mid new x y one other = record {
   bytes = Appends-then (contents old.inner) (contents mid.inner) (contents new.inner) x y one.bytes other.bytes;
 }
 
--- a line that begins takes nothing
-pub Took-began : {W : Type 0} (contents : W → Option (List ℕ)) (old mid new : Counting W) (written : List ℕ) (begun : List (List ℕ)) → Took contents old written mid → new ≡ record mid { begun = begun } → Took contents old written new
-Took-began contents old mid new written begun took is = subst (λ (w : Counting _). Took contents old written w) (sym is) (record { passed = took.passed; bytes = took.bytes })
-
 Consumes-none : (a : Option (List ℕ)) → Consumes a a []
 Consumes-none None = tt
 Consumes-none (Some xs) = refl

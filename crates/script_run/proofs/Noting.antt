@@ -1,5 +1,5 @@
 -- The moments that are noted are those of the turns.
-use Rattle.std.proofs.Common.{◌≡◌, ℕ, List, [], ◌∷◌, ◌++◌, map, refl, sym, ap, ◌∙◌, append_assoc}
+use Rattle.std.proofs.Common.{◌≡◌, ℕ, List, [], ◌∷◌, ◌++◌, map, refl, sym, ap, subst, ◌∙◌, append_assoc}
 use Rattle.std.specs.List.{concat}
 use Rattle.std.proofs.lemmas.List.{append-nil, map-append}
 use Rattle.fork_disk.specs.declared.store.ForkStore.{Ghosts}
@@ -11,6 +11,7 @@ use Rattle.script_run.specs.declared.machine.Machine.{Machine}
 use Rattle.script_run.specs.declared.moments.Moment.{Moment}
 use Rattle.script_run.specs.Line.{StatementDoes}
 use Rattle.script_run.specs.Run.{AreRun, IsRun, turns_at, turns_of}
+use Rattle.script_run.proofs.Turning.{run-goes}
 use Rattle.script_run.specs.Turns.{Noted, Turn, moment, moments_of, printed_after, stores_of, toolbox_after, turn_at, turn_left, turn_text}
 
 module _ {S : Type 0} where
@@ -63,3 +64,25 @@ module _ {S : Type 0} (store : Ghosts S) where
   pub run-printed : (start : Machine S) (lines : List Line) (texts : List (List ℕ)) (last : Machine S) (run : IsRun store start lines texts last) → printed_after [] (turns_of store start lines texts last run) ≡ concat texts
   run-printed start lines [] last run = absurd run
   run-printed start lines (text ∷ texts) last run = lines-printed text run.0 lines texts last run.2
+
+module _ {S : Type 0} (store : Ghosts S) (before : List ℕ) (old : List (Moment S)) (start : Machine S) where
+  -- these moments were noted, of these turns
+  abbrev pub NotedTurns : List (Turn S) → List (Moment S) → Type 0
+  NotedTurns turns new = Noted before old (moments_of [] start.toolbox turns) new
+
+  -- those of the opening of file 1
+  pub opening-noted : (new : List (Moment S)) (turn : Turn S) (left : Machine S) (passed : List ℕ) → new ≡ old ++ moment passed (stores_of start) ∷ moment passed (stores_of left) ∷ []
+      → passed ≡ before → turn_left turn ≡ left.toolbox → NotedTurns (turn ∷ []) new
+  opening-noted new turn left passed is at now = noted-more before old old new start.toolbox [] turn passed start left (noted-none before old) is (at ∙ sym (append-nil before)) refl now
+
+  -- and those of one more turn of a run
+  pub run-noted : (lines : List Line) (texts : List (List ℕ)) (last : Machine S) (run : IsRun store start lines texts last) (mid new : List (Moment S)) (turn : Turn S) (left : Machine S) (passed : List ℕ)
+      → NotedTurns (turns_of store start lines texts last run) mid → new ≡ mid ++ moment passed (stores_of last) ∷ moment passed (stores_of left) ∷ [] → passed ≡ before ++ concat texts → turn_left turn ≡ left.toolbox
+      → NotedTurns (turns_of store start lines texts last run ++ turn ∷ []) new
+  run-noted lines texts last run mid new turn left passed so_far is at now =
+      noted-more before old mid new start.toolbox (turns_of store start lines texts last run) turn passed last left so_far is
+      (at ∙ ap (λ (t : List ℕ). before ++ t) (sym (run-printed store start lines texts last run))) (run-goes store start lines texts last run).1 now
+
+  -- those of the same turns
+  pub same-turns-noted : (turns these : List (Turn S)) (new : List (Moment S)) → these ≡ turns → NotedTurns turns new → NotedTurns these new
+  same-turns-noted turns these new is noted = subst (λ (ts : List (Turn S)). NotedTurns ts new) (sym is) noted

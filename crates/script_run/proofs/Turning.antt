@@ -20,10 +20,10 @@ module _ {S : Type 0} (store : Ghosts S) where
   stores-in t = t.resources.stores
 
   -- a turn from the one toolbox to the other
-  abbrev Goes : ToolState S → Turn S → ToolState S → Type 0
+  abbrev pub Goes : ToolState S → Turn S → ToolState S → Type 0
   Goes old turn new = IsTurn store old turn × (turn_left turn ≡ new)
 
-  abbrev GoOn : ToolState S → List (Turn S) → ToolState S → Type 0
+  abbrev pub GoOn : ToolState S → List (Turn S) → ToolState S → Type 0
   GoOn old turns new = AreTurns store old turns × (toolbox_after old turns ≡ new)
 
   -- one, and others after it
@@ -37,7 +37,7 @@ module _ {S : Type 0} (store : Ghosts S) where
   then-goes old mid new (first ∷ turns) turn are one = let rest = then-goes (turn_left first) mid new turns turn (are.0.1, are.1) one in ((are.0.0, rest.0), rest.1)
 
   -- that of a line
-  line-goes : (old : Machine S) (number : ℕ) (statement : Statement) (text : List ℕ) (new : Machine S) (does : StatementDoes store old number statement text new)
+  pub line-goes : (old : Machine S) (number : ℕ) (statement : Statement) (text : List ℕ) (new : Machine S) (does : StatementDoes store old number statement text new)
       → Goes old.toolbox (turn_at store old number statement text new does) new.toolbox
   line-goes old number (Call line) text new does = ((does.2).0, refl)
   line-goes old number (Answer line) text new does = (same_forks store (stores_of old) (stores_of new) (ap stores-in does.1), refl)
@@ -58,7 +58,7 @@ module _ {S : Type 0} (store : Ghosts S) where
   run-goes start lines (text ∷ texts) last run = let rest = lines-go run.0 lines texts last run.2 in ((run.1.1, rest.0), rest.1)
 
   -- the one where host memory ended
-  stopped-goes : (old : Machine S) (number : ℕ) (statement : Statement) (new : Machine S) (stops : StopsAt store old number statement new)
+  pub stopped-goes : (old : Machine S) (number : ℕ) (statement : Statement) (new : Machine S) (stops : StopsAt store old number statement new)
       → Goes old.toolbox (turn_stopped store old number statement new stops) new.toolbox
   stopped-goes old number (Call line) new (inl unmade) = (unchanged_keeps_forks store old.toolbox new.toolbox (call_of old.variables line) unmade.0, refl)
   stopped-goes old number (Call line) new (inr long) = ((long.2).0, refl)

@@ -44,7 +44,7 @@ impl<S> Moments<S> {
 }
 
 impl<S: ForkStore> Moments<S> {
-    /// Notes this moment.
+    /// Notes what the writer has taken by now, and the stores as they are now.
     pub(crate) fn note<W>(&mut self, writer: &Counted<W>, machine: &Machine<S>)
         ensures { self.new ≡ self.old ++ moment writer.now.passed (stores_of machine.now) ∷ [] }
     {
