@@ -1,4 +1,4 @@
-use Rattle.std.proofs.Common.{◌≡◌, Err, unwrap_or, refl, sym, ap, subst}
+use Rattle.std.proofs.Common.{◌≡◌, [], Err, unwrap_or, refl, sym, ap, subst}
 use Rattle.script_text.specs.Script.{IsScript}
 use Rattle.script_run.specs.Line.{start_of}
 use Rattle.script_run.specs.Run.{Ends}
