@@ -1,5 +1,5 @@
 -- What was seen of a run is found after a crash, also after others.
-use Rattle.std.proofs.Common.{◌≡◌, ℕ, ◌-◌, ◌⊎◌, List, [], ◌∷◌, ◌++◌, Option, None, Some, slice_get, refl, sym, ap, subst, ◌∙◌, inl, inr, ⊎_elim}
+use Rattle.std.proofs.Common.{◌≡◌, ℕ, ◌-◌, ◌⊎◌, List, [], ◌∷◌, ◌++◌, Option, None, Some, slice_get, sym, subst, inl, inr, ⊎_elim}
 use Rattle.std.specs.Option.{IsSomeAnd, option_map_or}
 use Rattle.fork_disk.specs.declared.store.ForkStore.{Ghosts}
 use Rattle.fork_disk.specs.Crash.{Finds}

@@ -11,7 +11,7 @@ use Rattle.script_run.specs.declared.end.RunEnd.TheVariants.{Finished, ScriptFau
 use Rattle.script_run.specs.declared.machine.Machine.{Machine}
 use Rattle.script_run.specs.Line.{StatementDoes, StopsAt}
 use Rattle.script_run.specs.Run.{AreRun, IsRun, Makes, turn_stopped, turns_at, turns_of}
-use Rattle.script_run.specs.Turns.{Idle, Made, Turn, stores_of, toolbox_after, turn_at, turn_left}
+use Rattle.script_run.specs.Turns.{Turn, stores_of, toolbox_after, turn_at, turn_left}
 use Rattle.script_run.proofs.Crashing.{AreTurns, IsTurn}
 use Rattle.script_run.proofs.Opening.{same_forks, unchanged_keeps_forks}
 

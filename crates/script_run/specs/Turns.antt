@@ -1,7 +1,6 @@
 -- What a run does at each line, and the moments before it and after it.
 use Rattle.std.specs.Prelude.{◌≡◌, ℕ, List, [], ◌∷◌, ◌++◌, map}
 use Rattle.fork_disk.specs.declared.store.ForkStore.{Ghosts}
-use Rattle.script_lang.specs.declared.line.Line.{Line}
 use Rattle.script_lang.specs.declared.line.Statement.{Statement}
 use Rattle.script_lang.specs.declared.line.Statement.TheVariants.{Call, Answer}
 use Rattle.script_lang.specs.Resolving.{call_of}

@@ -78,7 +78,7 @@ returns-in_default-run_line-clause-ends g c =
       (
         moments_of [] start.toolbox turns,
         run-noted g.S.ForkStore c.args.writer.now.passed c.args.moments.now start lines i.0 had i.2 c.loop-line.moments c.run_line.new.moments turn left c.loop-line.writer.passed i.4 c.in_default-run_line.ensures.notes i.1.passed
-        (stopped-goes g.S.ForkStore had line.number line.statement left stopped).1,
+            (stopped-goes g.S.ForkStore had line.number line.statement left stopped).1,
         λ input is. none_told g.S.ForkStore start input _ i.0 turns _ told.0
             (inr (inr (ran_of g.S.ForkStore start input c.args.script.now c.loop-line.line-index i.0 had is i.2, line, _, left, left_from c.args.script.now c.loop-line.line-index line c.loop-line-test.true c.line-item.is, stopped, refl, refl, refl))) told.2,
       ),
