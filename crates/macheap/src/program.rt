@@ -143,13 +143,9 @@ fn run_over<F: Drop, S: ForkStore, J: ForkStore, O: Opens<F, S, J>, R: Read, W: 
     ensures no_write_failed { result ≢ 1 → output.new.failures ≡ output.old.failures }
 {
     if files.journals().is_empty() {
-        return run_alone(
-            alloc, opener, spec, files, input, output, messages, moments,
-        );
+        return run_alone(alloc, opener, spec, files, input, output, messages, moments);
     }
-    run_journalled(
-        alloc, opener, spec, files, input, output, messages, moments,
-    )
+    run_journalled(alloc, opener, spec, files, input, output, messages, moments)
 }
 
 /// Runs the script of the input over these forks alone, and gives the exit status.
