@@ -11,6 +11,8 @@ use Rattle.script_run.specs.Counting.{RoseByOne}
 use Rattle.script_run.specs.End.{status_of}
 use Rattle.script_run.specs.Line.{start_of}
 use Rattle.script_run.specs.Run.{Ends, IsProperFront, no_memory_text, Tells as EndTells}
+use Rattle.script_run.specs.declared.moments.Moment.{Moment}
+use Rattle.macheap.specs.declared.moments.AnyMoments.{AnyMoments}
 use Rattle.macheap.specs.declared.asked.Asked.{Asked}
 use Rattle.macheap.specs.declared.asked.Asked.TheVariants.{Run, Help}
 use Rattle.macheap.specs.declared.asked.NotAsked.{NotAsked}
@@ -21,7 +23,7 @@ use Rattle.macheap.specs.declared.stores.NoStores.{NoStores}
 use Rattle.macheap.specs.declared.stores.NoStores.TheVariants as why
 use Rattle.macheap.specs.Asking.{Asks}
 use Rattle.macheap.specs.declared.claimed.Naming.TheVariants.{Once, Repeated}
-use Rattle.macheap.specs.Program.{Parts, Done, Told, Answers, AsksForNothing, NoStoresEnd, Refuses, ProgramEnds, Because, RunEnds, RunsOver, SaysWhy, TellsBadWords, TellsNoMemory, Wrote, lacks_memory, over_plain, over_journalled, unopened, no_stores, ran, helped, refused, full_words}
+use Rattle.macheap.specs.Program.{Parts, Done, Told, Answers, AsksForNothing, NoStoresEnd, NoneNoted, Refuses, ProgramEnds, Because, RunEnds, RunsOver, SaysWhy, TellsBadWords, TellsNoMemory, Wrote, lacks_memory, over_plain, over_journalled, unopened, no_stores, ran, helped, refused, full_words}
 use Rattle.macheap.specs.Stores.{ArePlain, AreJournalled, IsOpened, Opening}
 use Rattle.macheap.proofs.Opening.{cant_widen, some_widen}
 
@@ -84,14 +86,14 @@ full_told (NoNumber option) told is tells = cc
 full_told (Mode mode) told is tells = cc
 full_told (Spec fault) told is tells = cc
 
-module _ {F S J : Type 0} (parts : Parts F S J) (words : List Text) (openings : List (Opening F)) (closed : List (AnyStore S J)) (done : Done) where
+module _ {F S J : Type 0} (parts : Parts F S J) (words : List Text) (openings : List (Opening F)) (closed : List (AnyStore S J)) (noted : AnyMoments S J) (done : Done) where
   -- what was asked for was done
-  pub answered : (asked : Asked) → Asks words (Ok asked) → Answers parts asked openings closed done → ProgramEnds parts words openings closed done
+  pub answered : (asked : Asked) → Asks words (Ok asked) → Answers parts asked openings closed noted done → ProgramEnds parts words openings closed noted done
   answered (Run sizes files) asks answers = ran sizes (map (λ name. name.now) files.forks.items) (map (λ name. name.now) files.journals.items) asks answers
   answered (Help text) asks answers = helped (kind_of text, asks.0, asks.1) answers.0 answers.1
 
   -- it was reported why nothing was asked for
-  pub was_refused : (error : NotAsked) → Asks words (Err error) → AsksForNothing openings closed done → Refuses error done.told → ProgramEnds parts words openings closed done
+  pub was_refused : (error : NotAsked) → Asks words (Err error) → AsksForNothing openings closed noted done → Refuses error done.told → ProgramEnds parts words openings closed noted done
   was_refused (Words fault) asks nothing refuses = refused (inl (kind_of fault, asks.0, asks.1)) nothing refuses
   was_refused TooManyForks asks nothing refuses = refused (inr (inl asks)) nothing refuses
   was_refused OtherJournals asks nothing refuses = refused (inr (inr (inl asks))) nothing refuses
@@ -109,9 +111,9 @@ because (ScriptFault line wrong) read_failed write_failed read write = tt
 
 module _ {S : Type 0} (store : Ghosts S) (sizes : ZoneSizes) (done : Done) where
   -- a run over the stores that were opened
-  pub ran_over : (stores left : List S) (end : RunEnd) → (end ≡ ReadFault → done.read_failed) → (end ≡ WriteFault → done.told.write_failed) → Ends store (start_of sizes stores) done.input end done.told.written done.told.begun left
-      → done.told.status ≡ status_of end → SaysWhy end done.told.silent done.told.tell_failed done.told.said → RunsOver store sizes stores left done
-  ran_over stores left end read write ends status says = record { end = end; ends = ends; because = because end done.read_failed done.told.write_failed read write; status = status; says = says }
+  pub ran_over : (stores : List S) (noted : List (Moment S)) (left : List S) (end : RunEnd) → (end ≡ ReadFault → done.read_failed) → (end ≡ WriteFault → done.told.write_failed) → Ends store (start_of sizes stores) done.input end done.told.written noted left
+      → done.told.status ≡ status_of end → SaysWhy end done.told.silent done.told.tell_failed done.told.said → RunsOver store sizes stores noted left done
+  ran_over stores noted left end read write ends status says = record { end = end; ends = ends; because = because end done.read_failed done.told.write_failed read write; status = status; says = says }
 
 pub no_names : {B : Type 0} (now : B → Text) (names : List B) → length names ≡ 0 → map now names ≡ []
 no_names now [] none = refl
@@ -120,39 +122,39 @@ no_names now (name ∷ names) none = absurd (omega (arith, none))
 pub some_names : {B : Type 0} (now : B → Text) (names : List B) → length names ≢ 0 → map now names ≢ []
 some_names now names some none = some (sym (length-map names now) ∙ ap length none)
 
-module _ {F S J B : Type 0} (parts : Parts F S J) (sizes : ZoneSizes) (now : B → Text) (forks journals : List B) (openings : List (Opening F)) (done : Done) where
+module _ {F S J B : Type 0} (parts : Parts F S J) (sizes : ZoneSizes) (now : B → Text) (forks journals : List B) (openings : List (Opening F)) (noted : AnyMoments S J) (done : Done) where
   abbrev Ran : List (AnyStore S J) → Type 0
-  Ran closed = RunEnds parts sizes (map now forks) (map now journals) openings closed done
+  Ran closed = RunEnds parts sizes (map now forks) (map now journals) openings closed noted done
 
   -- a run over forks alone
-  pub plain_ran : (names : List B) (stores left : List S) → names ≡ forks → length journals ≡ 0 → ArePlain parts.files parts.store parts.plain (map now names) openings stores → RunsOver parts.store sizes stores left done → Ran (map Alone left)
-  plain_ran names stores left same none are runs =
-      over_plain stores left (no_names now journals none) (subst (λ (fs : List B). ArePlain parts.files parts.store parts.plain (map now fs) openings stores) same are) runs refl
+  pub plain_ran : (names : List B) (stores left : List S) → names ≡ forks → length journals ≡ 0 → ArePlain parts.files parts.store parts.plain (map now names) openings stores → RunsOver parts.store sizes stores noted.alone left done → noted.journalled ≡ [] → Ran (map Alone left)
+  plain_ran names stores left same none are runs others =
+      over_plain stores left (no_names now journals none) (subst (λ (fs : List B). ArePlain parts.files parts.store parts.plain (map now fs) openings stores) same are) runs others refl
 
-  forks_unopened : (fault : NoStores) → length journals ≡ 0 → IsOpened {T = ℕ} Repeated (map now forks) openings (λ made. ⊤) (Err fault) → NoStoresEnd fault done.told → Ran []
-  forks_unopened (why.CannotOpen path reason) none cant ends =
-      unopened path.now reason (cant_widen (map now forks) (map now journals) openings path.now reason cant.0) (λ twice. let never : Repeated ≡ Once = cant.1 twice in cc) refl ends
-  forks_unopened why.HostFull none some ends = no_stores (some_widen (map now forks) (map now journals) openings some) refl ends
+  forks_unopened : (fault : NoStores) → length journals ≡ 0 → IsOpened {T = ℕ} Repeated (map now forks) openings (λ made. ⊤) (Err fault) → NoneNoted noted → NoStoresEnd fault done.told → Ran []
+  forks_unopened (why.CannotOpen path reason) none cant nothing ends =
+      unopened path.now reason (cant_widen (map now forks) (map now journals) openings path.now reason cant.0) (λ twice. let never : Repeated ≡ Once = cant.1 twice in cc) refl nothing ends
+  forks_unopened why.HostFull none some nothing ends = no_stores (some_widen (map now forks) (map now journals) openings some) refl nothing ends
 
   -- or without them
-  pub plain_unopened : (names : List B) (fault : NoStores) → names ≡ forks → length journals ≡ 0 → IsOpened {T = ℕ} Repeated (map now names) openings (λ made. ⊤) (Err fault) → NoStoresEnd fault done.told → Ran []
+  pub plain_unopened : (names : List B) (fault : NoStores) → names ≡ forks → length journals ≡ 0 → IsOpened {T = ℕ} Repeated (map now names) openings (λ made. ⊤) (Err fault) → NoneNoted noted → NoStoresEnd fault done.told → Ran []
   plain_unopened names fault same none opened = forks_unopened fault none (subst (λ (fs : List B). IsOpened {T = ℕ} Repeated (map now fs) openings (λ made. ⊤) (Err fault)) same opened)
 
   -- a run over forks with journals
   pub journalled_ran : (names journal_names : List B) (stores left : List J) → names ≡ forks → journal_names ≡ journals → length journals ≢ 0
-      → AreJournalled parts.files parts.pairs (map now names ++ map now journal_names) openings stores → RunsOver parts.with_journal sizes stores left done → Ran (map Journalled left)
-  journalled_ran names journal_names stores left same theirs some are runs =
+      → AreJournalled parts.files parts.pairs (map now names ++ map now journal_names) openings stores → RunsOver parts.with_journal sizes stores noted.journalled left done → noted.alone ≡ [] → Ran (map Journalled left)
+  journalled_ran names journal_names stores left same theirs some are runs others =
       over_journalled stores left (some_names now journals some)
       (subst (λ (js : List B). AreJournalled parts.files parts.pairs (map now forks ++ map now js) openings stores) theirs
-      (subst (λ (fs : List B). AreJournalled parts.files parts.pairs (map now fs ++ map now journal_names) openings stores) same are)) runs refl
+      (subst (λ (fs : List B). AreJournalled parts.files parts.pairs (map now fs ++ map now journal_names) openings stores) same are)) runs others refl
 
-  pairs_unopened : (fault : NoStores) → length journals ≢ 0 → IsOpened {T = ℕ} Once (map now forks ++ map now journals) openings (λ made. ⊤) (Err fault) → NoStoresEnd fault done.told → Ran []
-  pairs_unopened (why.CannotOpen path reason) some cant ends = unopened path.now reason cant.0 (λ twice. some_names now journals some) refl ends
-  pairs_unopened why.HostFull some few ends = no_stores few refl ends
+  pairs_unopened : (fault : NoStores) → length journals ≢ 0 → IsOpened {T = ℕ} Once (map now forks ++ map now journals) openings (λ made. ⊤) (Err fault) → NoneNoted noted → NoStoresEnd fault done.told → Ran []
+  pairs_unopened (why.CannotOpen path reason) some cant nothing ends = unopened path.now reason cant.0 (λ twice. some_names now journals some) refl nothing ends
+  pairs_unopened why.HostFull some few nothing ends = no_stores few refl nothing ends
 
   -- or without them
   pub journalled_unopened : (names journal_names : List B) (fault : NoStores) → names ≡ forks → journal_names ≡ journals → length journals ≢ 0
-      → IsOpened {T = ℕ} Once (map now names ++ map now journal_names) openings (λ made. ⊤) (Err fault) → NoStoresEnd fault done.told → Ran []
+      → IsOpened {T = ℕ} Once (map now names ++ map now journal_names) openings (λ made. ⊤) (Err fault) → NoneNoted noted → NoStoresEnd fault done.told → Ran []
   journalled_unopened names journal_names fault same theirs some opened = pairs_unopened fault some
       (subst (λ (js : List B). IsOpened {T = ℕ} Once (map now forks ++ map now js) openings (λ made. ⊤) (Err fault)) theirs
       (subst (λ (fs : List B). IsOpened {T = ℕ} Once (map now fs ++ map now journal_names) openings (λ made. ⊤) (Err fault)) same opened))

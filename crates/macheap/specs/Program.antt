@@ -8,10 +8,13 @@ use Rattle.mac_base.specs.declared.zone_spec.BadSpec.{BadSpec}
 use Rattle.path_text.specs.FileNames.{shown_name}
 use Rattle.script_run.specs.declared.end.RunEnd.{RunEnd}
 use Rattle.script_run.specs.declared.end.RunEnd.TheVariants.{Finished, ScriptFault, NoMemory, ReadFault, WriteFault}
-use Rattle.script_run.specs.Counting.{Counting, Gave, RoseByOne, Took, begun_since}
+use Rattle.script_run.specs.Counting.{Counting, Gave, RoseByOne, Took}
 use Rattle.script_run.specs.End.{status_of}
 use Rattle.script_run.specs.Line.{start_of}
 use Rattle.script_run.specs.Run.{Ends, IsProperFront, no_memory_text}
+use Rattle.script_run.specs.Turns.{Noted}
+use Rattle.script_run.specs.declared.moments.Moment.{Moment}
+use Rattle.macheap.specs.declared.moments.AnyMoments.{AnyMoments}
 use Rattle.macheap.specs.declared.asked.Asked.{Asked}
 use Rattle.macheap.specs.declared.asked.Asked.TheVariants.{Run, Help}
 use Rattle.macheap.specs.declared.asked.NotAsked.{NotAsked}
@@ -35,12 +38,11 @@ Because Finished read_failed write_failed = ⊤
 Because NoMemory read_failed write_failed = ⊤
 Because (ScriptFault line wrong) read_failed write_failed = ⊤
 
--- What the program reported: its status, what it wrote to its output, how much of that when each line of a script began,
--- what it wrote to its messages, that it made no call on these, and that a write of the one or the other failed.
+-- What the program reported: its status, what it wrote to its output and to its messages, that it made no call on these,
+-- and that a write of the one or the other failed.
 pub record Told : Type 1 where
   pub status : ℕ
   pub written : List ℕ
-  pub begun : List (List ℕ)
   pub said : List ℕ
   pub silent : Type 0
   pub write_failed : Type 0
@@ -59,7 +61,6 @@ Tells contents notes output output_now messages messages_now status So = (writte
     × So (record {
       status = status;
       written = written;
-      begun = begun_since output output_now;
       said = said;
       silent = messages_now ≡ messages;
       write_failed = RoseByOne output.failures output_now.failures;
@@ -76,6 +77,10 @@ Did remaining contents notes input input_now output output_now messages messages
       read_failed = RoseByOne input.failures input_now.failures;
       told = told;
     }))
+
+-- moments of a run over forks alone, and moments of one over forks with journals, were noted, of which this is so
+abbrev pub AnyNotes : {S J : Type 0} → List ℕ → AnyMoments S J → AnyMoments S J → (AnyMoments S J → Type 0) → Type 0
+AnyNotes {S = S} {J = J} before old new So = (noted : AnyMoments S J) × Noted before old.alone noted.alone new.alone × Noted before old.journalled noted.journalled new.journalled × So noted
 
 -- This text was written, or a proper front of it before a write failed.
 abbrev pub Wrote : List ℕ → Type 0 → List ℕ → Type 0
@@ -141,10 +146,10 @@ SaysWhy NoMemory silent failed said = silent
 SaysWhy ReadFault silent failed said = silent
 SaysWhy WriteFault silent failed said = silent
 
--- A run on a zone of these sizes and these stores ended so, and left them so.
-pub record RunsOver {S : Type 0} (store : Ghosts S) (sizes : ZoneSizes) (stores left : List S) (done : Done) : Type 0 where
+-- A run on a zone of these sizes and these stores ended so, with these moments, and left them so.
+pub record RunsOver {S : Type 0} (store : Ghosts S) (sizes : ZoneSizes) (stores : List S) (noted : List (Moment S)) (left : List S) (done : Done) : Type 0 where
   pub end : RunEnd
-  pub ends : Ends store (start_of sizes stores) done.input end done.told.written done.told.begun left
+  pub ends : Ends store (start_of sizes stores) done.input end done.told.written noted left
   pub because : Because end done.read_failed done.told.write_failed
   pub status : done.told.status ≡ status_of end
   pub says : SaysWhy end done.told.silent done.told.tell_failed done.told.said
@@ -158,38 +163,42 @@ pub record Parts (F S J : Type 0) : Type 1 where
   pub plain : ℕ → F → S → Type 0
   pub pairs : ℕ → F → F → J → Type 0
 
+-- no moments were noted
+abbrev pub NoneNoted : {S J : Type 0} → AnyMoments S J → Type 0
+NoneNoted noted = (noted.alone ≡ []) × (noted.journalled ≡ [])
+
 -- A run on a zone of these sizes over the files of these names, of which these were asked for, ended so: each fork
 -- alone, or each with its journal. The stores were closed as it left them. Or one of the files can't be opened, or the
 -- host has no memory for the stores: then there were none. A second name of a file is refused only where there are
 -- journals.
-pub data RunEnds {F S J : Type 0} (parts : Parts F S J) (sizes : ZoneSizes) (forks journals : List Text) (openings : List (Opening F)) (closed : List (AnyStore S J)) (done : Done) : Type 0 where
-  over_plain : (stores left : List S) → journals ≡ [] → ArePlain parts.files parts.store parts.plain forks openings stores → RunsOver parts.store sizes stores left done → closed ≡ map Alone left → RunEnds parts sizes forks journals openings closed done
-  over_journalled : (stores left : List J) → journals ≢ [] → AreJournalled parts.files parts.pairs (forks ++ journals) openings stores → RunsOver parts.with_journal sizes stores left done → closed ≡ map Journalled left → RunEnds parts sizes forks journals openings closed done
-  unopened : (path : Text) (reason_of : NotOpened) → OneCantBeOpened (forks ++ journals) openings path reason_of → (reason_of ≡ Twice → journals ≢ []) → closed ≡ [] → TellsCannotOpen path reason_of done.told → RunEnds parts sizes forks journals openings closed done
-  no_stores : SomeOpened (forks ++ journals) openings → closed ≡ [] → TellsNoMemory done.told → RunEnds parts sizes forks journals openings closed done
+pub data RunEnds {F S J : Type 0} (parts : Parts F S J) (sizes : ZoneSizes) (forks journals : List Text) (openings : List (Opening F)) (closed : List (AnyStore S J)) (noted : AnyMoments S J) (done : Done) : Type 0 where
+  over_plain : (stores left : List S) → journals ≡ [] → ArePlain parts.files parts.store parts.plain forks openings stores → RunsOver parts.store sizes stores noted.alone left done → noted.journalled ≡ [] → closed ≡ map Alone left → RunEnds parts sizes forks journals openings closed noted done
+  over_journalled : (stores left : List J) → journals ≢ [] → AreJournalled parts.files parts.pairs (forks ++ journals) openings stores → RunsOver parts.with_journal sizes stores noted.journalled left done → noted.alone ≡ [] → closed ≡ map Journalled left → RunEnds parts sizes forks journals openings closed noted done
+  unopened : (path : Text) (reason_of : NotOpened) → OneCantBeOpened (forks ++ journals) openings path reason_of → (reason_of ≡ Twice → journals ≢ []) → closed ≡ [] → NoneNoted noted → TellsCannotOpen path reason_of done.told → RunEnds parts sizes forks journals openings closed noted done
+  no_stores : SomeOpened (forks ++ journals) openings → closed ≡ [] → NoneNoted noted → TellsNoMemory done.told → RunEnds parts sizes forks journals openings closed noted done
 
--- no file was asked for, no store was closed, and nothing was read
-abbrev pub AsksForNothing : {F T : Type 0} → List (Opening F) → List T → Done → Type 0
-AsksForNothing openings closed done = (openings ≡ []) × (closed ≡ []) × (done.given ≡ [])
+-- no file was asked for, no store was closed, no moments were noted, and nothing was read
+abbrev pub AsksForNothing : {F S J T : Type 0} → List (Opening F) → List T → AnyMoments S J → Done → Type 0
+AsksForNothing openings closed noted done = (openings ≡ []) × (closed ≡ []) × NoneNoted noted × (done.given ≡ [])
 
 -- What was asked for was done: a run on a zone, or a help text, for which nothing is read.
-abbrev pub Answers : {F S J : Type 0} → Parts F S J → Asked → List (Opening F) → List (AnyStore S J) → Done → Type 0
-Answers parts (Run sizes files) openings closed done = RunEnds parts sizes (map (λ name. name.now) files.forks.items) (map (λ name. name.now) files.journals.items) openings closed done
-Answers parts (Help text) openings closed done = AsksForNothing openings closed done × ShowsHelp done.told
+abbrev pub Answers : {F S J : Type 0} → Parts F S J → Asked → List (Opening F) → List (AnyStore S J) → AnyMoments S J → Done → Type 0
+Answers parts (Run sizes files) openings closed noted done = RunEnds parts sizes (map (λ name. name.now) files.forks.items) (map (λ name. name.now) files.journals.items) openings closed noted done
+Answers parts (Help text) openings closed noted done = AsksForNothing openings closed noted done × ShowsHelp done.told
 
 -- the words are bad, name too many files, or journals that don't fit them, or give numbers of which there is no mode or
 -- no zone
 abbrev pub AreBad : List Text → Type 0
 AreBad words = DontMatch words ⊎ (NamesTooMany words ⊎ (JournalsDontFit words ⊎ (((option : Text) × GivesNoNumber words option) ⊎ (((mode : ℕ) × GivesNoMode words mode) ⊎ ((fault : BadSpec) × GivesNoZone words fault)))))
 
--- With these words the program may ask for these files, close these stores and do so, where a run is made of these
--- parts.
-pub data ProgramEnds {F S J : Type 0} (parts : Parts F S J) (words : List Text) (openings : List (Opening F)) (closed : List (AnyStore S J)) (done : Done) : Type 0 where
+-- With these words the program may ask for these files, close these stores, note these moments and do so, where a run
+-- is made of these parts.
+pub data ProgramEnds {F S J : Type 0} (parts : Parts F S J) (words : List Text) (openings : List (Opening F)) (closed : List (AnyStore S J)) (noted : AnyMoments S J) (done : Done) : Type 0 where
   -- a run on the zone that the words give, over the files that they name
-  ran : (sizes : ZoneSizes) (forks journals : List Text) → AsksForRun words sizes forks journals → RunEnds parts sizes forks journals openings closed done → ProgramEnds parts words openings closed done
+  ran : (sizes : ZoneSizes) (forks journals : List Text) → AsksForRun words sizes forks journals → RunEnds parts sizes forks journals openings closed noted done → ProgramEnds parts words openings closed noted done
   -- a help text, or as much of it as the output took
-  helped : AsksForHelp words → AsksForNothing openings closed done → ShowsHelp done.told → ProgramEnds parts words openings closed done
+  helped : AsksForHelp words → AsksForNothing openings closed noted done → ShowsHelp done.told → ProgramEnds parts words openings closed noted done
   -- a message, since the words are bad
-  refused : AreBad words → AsksForNothing openings closed done → TellsBadWords done.told → ProgramEnds parts words openings closed done
+  refused : AreBad words → AsksForNothing openings closed noted done → TellsBadWords done.told → ProgramEnds parts words openings closed noted done
   -- that the host has no memory for the words
-  full_words : AsksForNothing openings closed done → TellsNoMemory done.told → ProgramEnds parts words openings closed done
+  full_words : AsksForNothing openings closed noted done → TellsNoMemory done.told → ProgramEnds parts words openings closed noted done

@@ -7,6 +7,7 @@ mod claimed;
 mod disk;
 mod files;
 mod look;
+mod moments;
 mod name;
 mod opened;
 mod program;
@@ -18,6 +19,7 @@ use fork_disk::store::PlainStore;
 use fork_disk::{Unknown, World};
 use fork_journal::{FilePair, Journal, PairWorld, UnknownPair};
 use look::{asks_for_look, looked};
+use moments::AnyMoments;
 use program::{BAD_WORDS, program};
 use script_run::{Counted, status, tell_no_memory};
 use std::io::ErrorKind;
@@ -54,6 +56,7 @@ fn run_on_host<W: World, V: PairWorld>(rt: &HostRuntime) -> ExitCode {
         &mut input,
         &mut output,
         &mut messages,
+        &mut AnyMoments::new(),
     ))
 }
 

@@ -6,12 +6,15 @@ ghost use Rattle.script_run.specs.Counting.{RoseByOne, Took};
 ghost use Rattle.script_run.specs.Exact.{RunsAgree};
 ghost use Rattle.script_run.specs.Headline.{RunShows};
 ghost use Rattle.script_run.specs.Recovery.{RunRecovers};
-ghost use Rattle.macheap.specs.Program.{Answers, Did, HelpEnds, NoStoresEnd, ProgramEnds, Refuses, RunEnds, RunsOver, SaysWhy, Tells, Wrote, cannot_open_text, lacks_memory};
+ghost use Rattle.script_run.specs.Seen.{KeepsSeen};
+ghost use Rattle.script_run.specs.Turns.{Notes};
+ghost use Rattle.macheap.specs.Program.{Answers, AnyNotes, Did, HelpEnds, NoStoresEnd, ProgramEnds, Refuses, RunEnds, RunsOver, SaysWhy, Tells, Wrote, cannot_open_text, lacks_memory};
 ghost use Rattle.macheap.specs.Stores.{Opening};
 ghost use Rattle.macheap.specs.declared.stores.AnyStore.{AnyStore};
 
 use crate::asked::{Asked, NotAsked, asked_by};
 use crate::files::Files;
+use crate::moments::AnyMoments;
 use crate::name::write_name;
 use crate::opened::NotOpened;
 use crate::stores::{
@@ -20,7 +23,7 @@ use crate::stores::{
 use fork_disk::store::ForkStore;
 use mac_base::zone_spec::ZoneSpec;
 use path_text::{Lines, in_lines};
-use script_run::{Counted, RunEnd, run, status, tell_no_memory, write_whole};
+use script_run::{Counted, Moments, RunEnd, run, status, tell_no_memory, write_whole};
 use script_text::Wrong;
 use std::alloc::{AllocError, Global};
 use std::convert::AsStr;
@@ -67,23 +70,28 @@ pub fn program<
     input: &mut Counted<R>,
     output: &mut Counted<W>,
     messages: &mut Counted<M>,
+    moments: &mut AnyMoments<S, J>,
 ) -> u8
     ensures ends { (openings : List (Opening F)) × (closed : List (AnyStore S J))
         × (O.openings opener.new ≡ O.openings opener.old ++ openings) × (O.closed opener.new ≡ O.closed opener.old ++ closed)
-        × Did R.remaining W.contents M.contents input.old input.new output.old output.new messages.old messages.new result
-        (ProgramEnds (record { files = O.asking; store = S.ForkStore; with_journal = J.ForkStore; plain = O.plain; pairs = O.pairs }) (map T.text words.now) openings closed) }
+        × AnyNotes output.old.passed moments.old moments.new
+        (λ noted. Did R.remaining W.contents M.contents input.old input.new output.old output.new messages.old messages.new result
+        (ProgramEnds (record { files = O.asking; store = S.ForkStore; with_journal = J.ForkStore; plain = O.plain; pairs = O.pairs }) (map T.text words.now) openings closed noted)) }
     // So these are promised of each run, over forks alone and with journals: what its lines print is the replies of calls
     // with their promises; a crash at any moment leaves each file with a journal as that recovers it; and two runs on the
     // same print the same.
     ensures headline { RunShows S.ForkStore × RunShows J.ForkStore }
     ensures recovers { RunRecovers S.ForkStore × RunRecovers J.ForkStore }
+    // Over any runs, each of which a crash cut off at any time, a start finds what the last call settled whose reply had
+    // been written, or what a later one saves.
+    ensures kept { KeepsSeen S.ForkStore × KeepsSeen J.ForkStore }
     ensures exact { RunsAgree S.ForkStore × RunsAgree J.ForkStore }
     // Where something failed, the status says so.
     ensures no_read_failed { result ≢ 1 → input.new.failures ≡ input.old.failures }
     ensures no_write_failed { result ≢ 1 → output.new.failures ≡ output.old.failures }
 {
     match asked_by(alloc, words) {
-        Ok(asked) => answer(alloc, opener, asked, input, output, messages),
+        Ok(asked) => answer(alloc, opener, asked, input, output, messages, moments),
         Err(error) => refuse(alloc, words, &error, output, messages),
     }
 }
@@ -96,16 +104,20 @@ fn answer<F: Drop, S: ForkStore, J: ForkStore, O: Opens<F, S, J>, R: Read, W: Wr
     input: &mut Counted<R>,
     output: &mut Counted<W>,
     messages: &mut Counted<M>,
+    moments: &mut AnyMoments<S, J>,
 ) -> u8
     ensures ends { (openings : List (Opening F)) × (closed : List (AnyStore S J))
         × (O.openings opener.new ≡ O.openings opener.old ++ openings) × (O.closed opener.new ≡ O.closed opener.old ++ closed)
-        × Did R.remaining W.contents M.contents input.old input.new output.old output.new messages.old messages.new result
-        (Answers (record { files = O.asking; store = S.ForkStore; with_journal = J.ForkStore; plain = O.plain; pairs = O.pairs }) asked.entry openings closed) }
+        × AnyNotes output.old.passed moments.old moments.new
+        (λ noted. Did R.remaining W.contents M.contents input.old input.new output.old output.new messages.old messages.new result
+        (Answers (record { files = O.asking; store = S.ForkStore; with_journal = J.ForkStore; plain = O.plain; pairs = O.pairs }) asked.entry openings closed noted)) }
     ensures no_read_failed { result ≢ 1 → input.new.failures ≡ input.old.failures }
     ensures no_write_failed { result ≢ 1 → output.new.failures ≡ output.old.failures }
 {
     match asked {
-        Asked::Run(spec, files) => run_over(alloc, opener, spec, &files, input, output, messages),
+        Asked::Run(spec, files) => run_over(
+            alloc, opener, spec, &files, input, output, messages, moments,
+        ),
         Asked::Help(text) => show_help(alloc, output, &text),
     }
 }
@@ -119,19 +131,21 @@ fn run_over<F: Drop, S: ForkStore, J: ForkStore, O: Opens<F, S, J>, R: Read, W: 
     input: &mut Counted<R>,
     output: &mut Counted<W>,
     messages: &mut Counted<M>,
+    moments: &mut AnyMoments<S, J>,
 ) -> u8
     ensures ends { (openings : List (Opening F)) × (closed : List (AnyStore S J))
         × (O.openings opener.new ≡ O.openings opener.old ++ openings) × (O.closed opener.new ≡ O.closed opener.old ++ closed)
-        × Did R.remaining W.contents M.contents input.old input.new output.old output.new messages.old messages.new result
+        × AnyNotes output.old.passed moments.old moments.new
+        (λ noted. Did R.remaining W.contents M.contents input.old input.new output.old output.new messages.old messages.new result
         (RunEnds (record { files = O.asking; store = S.ForkStore; with_journal = J.ForkStore; plain = O.plain; pairs = O.pairs })
-        spec (map (λ name. name.now) files.now.forks.items) (map (λ name. name.now) files.now.journals.items) openings closed) }
+        spec (map (λ name. name.now) files.now.forks.items) (map (λ name. name.now) files.now.journals.items) openings closed noted)) }
     ensures no_read_failed { result ≢ 1 → input.new.failures ≡ input.old.failures }
     ensures no_write_failed { result ≢ 1 → output.new.failures ≡ output.old.failures }
 {
     if files.journals().is_empty() {
-        return run_alone(alloc, opener, spec, files, input, output, messages);
+        return run_alone(alloc, opener, spec, files, input, output, messages, moments);
     }
-    run_journalled(alloc, opener, spec, files, input, output, messages)
+    run_journalled(alloc, opener, spec, files, input, output, messages, moments)
 }
 
 /// Runs the script of the input over these forks alone, and gives the exit status.
@@ -143,13 +157,15 @@ fn run_alone<F: Drop, S: ForkStore, J: ForkStore, O: Opens<F, S, J>, R: Read, W:
     input: &mut Counted<R>,
     output: &mut Counted<W>,
     messages: &mut Counted<M>,
+    moments: &mut AnyMoments<S, J>,
 ) -> u8
     requires { length files.now.journals.items ≡ 0 }
     ensures ends { (openings : List (Opening F)) × (closed : List (AnyStore S J))
         × (O.openings opener.new ≡ O.openings opener.old ++ openings) × (O.closed opener.new ≡ O.closed opener.old ++ closed)
-        × Did R.remaining W.contents M.contents input.old input.new output.old output.new messages.old messages.new result
+        × AnyNotes output.old.passed moments.old moments.new
+        (λ noted. Did R.remaining W.contents M.contents input.old input.new output.old output.new messages.old messages.new result
         (RunEnds (record { files = O.asking; store = S.ForkStore; with_journal = J.ForkStore; plain = O.plain; pairs = O.pairs })
-        spec (map (λ name. name.now) files.now.forks.items) (map (λ name. name.now) files.now.journals.items) openings closed) }
+        spec (map (λ name. name.now) files.now.forks.items) (map (λ name. name.now) files.now.journals.items) openings closed noted)) }
     ensures no_read_failed { result ≢ 1 → input.new.failures ≡ input.old.failures }
     ensures no_write_failed { result ≢ 1 → output.new.failures ≡ output.old.failures }
 {
@@ -157,7 +173,15 @@ fn run_alone<F: Drop, S: ForkStore, J: ForkStore, O: Opens<F, S, J>, R: Read, W:
         Ok(stores) => stores,
         Err(fault) => return tell_no_stores(fault, output, messages),
     };
-    let (status, left) = run_on(alloc, spec, stores, input, output, messages);
+    let (status, left) = run_on(
+        alloc,
+        spec,
+        stores,
+        input,
+        output,
+        messages,
+        &mut moments.alone,
+    );
     close_alone(opener, left);
     status
 }
@@ -179,13 +203,15 @@ fn run_journalled<
     input: &mut Counted<R>,
     output: &mut Counted<W>,
     messages: &mut Counted<M>,
+    moments: &mut AnyMoments<S, J>,
 ) -> u8
     requires { length files.now.journals.items ≢ 0 }
     ensures ends { (openings : List (Opening F)) × (closed : List (AnyStore S J))
         × (O.openings opener.new ≡ O.openings opener.old ++ openings) × (O.closed opener.new ≡ O.closed opener.old ++ closed)
-        × Did R.remaining W.contents M.contents input.old input.new output.old output.new messages.old messages.new result
+        × AnyNotes output.old.passed moments.old moments.new
+        (λ noted. Did R.remaining W.contents M.contents input.old input.new output.old output.new messages.old messages.new result
         (RunEnds (record { files = O.asking; store = S.ForkStore; with_journal = J.ForkStore; plain = O.plain; pairs = O.pairs })
-        spec (map (λ name. name.now) files.now.forks.items) (map (λ name. name.now) files.now.journals.items) openings closed) }
+        spec (map (λ name. name.now) files.now.forks.items) (map (λ name. name.now) files.now.journals.items) openings closed noted)) }
     ensures no_read_failed { result ≢ 1 → input.new.failures ≡ input.old.failures }
     ensures no_write_failed { result ≢ 1 → output.new.failures ≡ output.old.failures }
 {
@@ -193,7 +219,15 @@ fn run_journalled<
         Ok(stores) => stores,
         Err(fault) => return tell_no_stores(fault, output, messages),
     };
-    let (status, left) = run_on(alloc, spec, stores, input, output, messages);
+    let (status, left) = run_on(
+        alloc,
+        spec,
+        stores,
+        input,
+        output,
+        messages,
+        &mut moments.journalled,
+    );
     close_journalled(opener, left);
     status
 }
@@ -207,13 +241,16 @@ fn run_on<S: ForkStore, R: Read, W: Write, M: Write>(
     input: &mut Counted<R>,
     output: &mut Counted<W>,
     messages: &mut Counted<M>,
+    moments: &mut Moments<S>,
 ) -> (u8, Vec<S>)
     requires { length stores.items ≤ most_files }
-    ensures ends { Did R.remaining W.contents M.contents input.old input.new output.old output.new messages.old messages.new result.0 (RunsOver S.ForkStore spec stores.items result.1.items) }
+    ensures ends { Notes output.old.passed moments.old moments.new
+        (λ noted. Did R.remaining W.contents M.contents input.old input.new output.old output.new messages.old messages.new result.0
+        (RunsOver S.ForkStore spec stores.items noted result.1.items)) }
     ensures no_read_failed { result.0 ≢ 1 → input.new.failures ≡ input.old.failures }
     ensures no_write_failed { result.0 ≢ 1 → output.new.failures ≡ output.old.failures }
 {
-    let (end, stores) = run(alloc, input, output, spec, stores);
+    let (end, stores) = run(alloc, input, output, moments, spec, stores);
     tell_wrong(alloc, end, messages);
     (status(end), stores)
 }

@@ -1,5 +1,5 @@
 -- What several reads and writes give and take.
-use Rattle.std.proofs.Common.{◌≡◌, ℕ, ◌-◌, ◌<◌, ◌≤◌, arith, Bool, take, drop, length, length-drop, List, [], ◌++◌, Option, Some, None, unwrap_or, refl, sym, ap, subst, ◌∙◌, append_assoc, length-append}
+use Rattle.std.proofs.Common.{◌≡◌, ℕ, ◌-◌, ◌<◌, ◌≤◌, arith, Bool, take, drop, length, length-drop, List, [], ◌++◌, Option, Some, None, unwrap_or, refl, sym, ap, ◌∙◌, append_assoc, length-append}
 use Rattle.std.specs.Io.KnownBytes.{Appends, Consumes, IsAtEnd}
 use Rattle.script_text.specs.Script.{max_script}
 use Rattle.std.specs.Prelude.{◌&&◌, ◌==◌, not}
@@ -28,10 +28,6 @@ Took-then contents old mid new x y one other = record {
   passed = other.passed ∙ ap (λ (t : List ℕ). t ++ y) one.passed ∙ append_assoc old.passed x y;
   bytes = Appends-then (contents old.inner) (contents mid.inner) (contents new.inner) x y one.bytes other.bytes;
 }
-
--- a line that begins takes nothing
-pub Took-began : {W : Type 0} (contents : W → Option (List ℕ)) (old mid new : Counting W) (written : List ℕ) (begun : List (List ℕ)) → Took contents old written mid → new ≡ record mid { begun = begun } → Took contents old written new
-Took-began contents old mid new written begun took is = subst (λ (w : Counting _). Took contents old written w) (sym is) (record { passed = took.passed; bytes = took.bytes })
 
 Consumes-none : (a : Option (List ℕ)) → Consumes a a []
 Consumes-none None = tt

@@ -1,5 +1,9 @@
 pub mod Ending
 pub mod Known
+pub mod Crashing
+pub mod Turning
+pub mod Noting
+pub mod Kept
 pub mod Left
 pub mod Opening
 pub mod Starting

@@ -1,18 +1,12 @@
 -- What a reader gave or a writer took, and how often it failed.
-use Rattle.std.specs.Prelude.{◌≡◌, ℕ, ◌+◌, ◌-◌, ◌^◌, ◌==◌, ◌&&◌, not, min, Bool, true, false, if◌then◌else◌, List, [], ◌∷◌, ◌++◌, length, map, take, drop, Option, Result, Ok, Err}
+use Rattle.std.specs.Prelude.{◌≡◌, ℕ, ◌+◌, ◌-◌, ◌^◌, ◌==◌, ◌&&◌, not, min, Bool, true, false, if◌then◌else◌, List, [], ◌∷◌, ◌++◌, take, Option, Result, Ok, Err}
 use Rattle.std.specs.Io.KnownBytes.{Appends, Consumes}
 
--- a reader or a writer, how often it has failed, the bytes that it gave or took so far, and of each line that was run
--- those of them that it had given or taken when the line began
+-- a reader or a writer, how often it has failed, and the bytes that it gave or took so far
 pub record Counting (T : Type 0) : Type 0 where
   pub inner : T
   pub failures : ℕ
   pub passed : List ℕ
-  pub begun : List (List ℕ)
-
--- of each line that was run since, the bytes that were given or taken since, when it began
-abbrev pub begun_since : {T : Type 0} → Counting T → Counting T → List (List ℕ)
-begun_since old new = map (λ front. drop (length old.passed) front) (drop (length old.begun) new.begun)
 
 -- the count after a call: one more where it failed, up to the last value, and else the same
 abbrev pub counted : Bool → ℕ → ℕ

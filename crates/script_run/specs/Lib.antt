@@ -1,8 +1,10 @@
 pub mod Counting
 pub mod End
 pub mod Line
+pub mod Turns
 pub mod Run
 pub mod Starting
 pub mod Headline
 pub mod Recovery
+pub mod Seen
 pub mod Exact

@@ -1,25 +1,22 @@
 //! Readers and writers that count their failures.
 
-ghost use Rattle.std.specs.Prelude.{◌≡◌, ◌==◌, ◌++◌, [], ◌∷◌, length, is_err, true, false};
+ghost use Rattle.std.specs.Prelude.{◌≡◌, ◌==◌, ◌++◌, [], length, is_err, true, false};
 ghost use Rattle.std.specs.Io.{ReadsAtMost, WritesAtMost};
 ghost use Rattle.std.specs.Io.KnownBytes.{Keeps, ReadConsumes, WriteAppends};
 ghost use Rattle.script_run.specs.Counting.{counted, passed_by, takes_nothing};
 
 use fork_disk::Record;
-use std::collections::LinkedList;
 use std::io;
 use std::io::{Read, Write};
 use std::marker::Model;
 
 /// A reader or a writer that counts its failures. A contract sees what is counted, the count, which stays at its last
-/// value, the bytes that were given or taken so far, and what these were when each line of a script began. No memory
-/// holds the bytes.
+/// value, and the bytes that were given or taken so far. No memory holds the bytes.
 #[derive(Drop)]
 pub struct Counted<T> {
     inner: T,
     failures: u64,
     passed: Record<u8>,
-    begun: Record<LinkedList<u8>>,
 }
 
 impl<T> Model for Counted<T> {
@@ -27,7 +24,7 @@ impl<T> Model for Counted<T> {
 
     ghost Value = { Counting T };
 
-    ghost view = { λ c. record { inner = c.inner; failures = c.failures; passed = c.passed.events; begun = c.begun.events } };
+    ghost view = { λ c. record { inner = c.inner; failures = c.failures; passed = c.passed.events } };
 }
 
 impl<T> Counted<T> {
@@ -36,21 +33,12 @@ impl<T> Counted<T> {
         ensures inner { result.inner ≡ inner }
         ensures failures { result.failures ≡ 0 }
         ensures passed { result.passed ≡ [] }
-        ensures begun { result.begun ≡ [] }
     {
         Counted {
             inner,
             failures: 0,
             passed: Record::new(),
-            begun: Record::new(),
         }
-    }
-
-    /// Notes that a line of a script begins now.
-    pub(crate) fn begin(&mut self)
-        ensures { self.new ≡ record self.old { begun = self.old.begun ++ self.old.passed ∷ [] } }
-    {
-        self.begun = Record::of_events_beside(&self.begun, &self.passed, &());
     }
 
     /// What is counted.
@@ -91,7 +79,6 @@ impl<R: Read> Read for Counted<R> {
         ensures bytes { ReadConsumes (R.remaining self.old.inner) (R.remaining self.new.inner) result buf.new }
         ensures count { self.new.failures ≡ counted (is_err result) self.old.failures }
         ensures passed { self.new.passed ≡ self.old.passed ++ passed_by result buf.new }
-        ensures begun { self.new.begun ≡ self.old.begun }
     {
         let result = self.inner.read(buf);
         match &result {
@@ -111,7 +98,6 @@ impl<W: Write> Write for Counted<W> {
         ensures bytes { WriteAppends (W.contents self.old.inner) (W.contents self.new.inner) result buf.now }
         ensures count { self.new.failures ≡ counted (takes_nothing result buf.now) self.old.failures }
         ensures passed { self.new.passed ≡ self.old.passed ++ passed_by result buf.now }
-        ensures begun { self.new.begun ≡ self.old.begun }
     {
         let result = self.inner.write(buf);
         if let Ok(count) = &result {
@@ -131,7 +117,6 @@ impl<W: Write> Write for Counted<W> {
         ensures bytes { Keeps (W.contents self.old.inner) (W.contents self.new.inner) }
         ensures count { self.new.failures ≡ counted (is_err result) self.old.failures }
         ensures passed { self.new.passed ≡ self.old.passed }
-        ensures begun { self.new.begun ≡ self.old.begun }
     {
         let result = self.inner.flush();
         if result.is_err() {

@@ -4,6 +4,7 @@
 mod counted;
 mod end;
 mod machine;
+mod moments;
 mod reading;
 mod ready;
 mod running;
@@ -11,5 +12,6 @@ mod writing;
 
 pub use counted::Counted;
 pub use end::{RunEnd, status};
+pub use moments::Moments;
 pub use running::{run, tell_no_memory};
 pub use writing::write_whole;

@@ -4,9 +4,11 @@ ghost use Rattle.std.specs.Prelude.{◌≡◌, ◌≤◌, ◌⊎◌, [], ◌∷�
 ghost use Rattle.mac_base.specs.Heap.{new_heap};
 ghost use Rattle.mac_base.specs.ZoneSizes.{ZoneSizes, shape_of};
 ghost use Rattle.res_files.specs.Standing.{most_files};
-ghost use Rattle.script_run.specs.Line.{start_of, assigned, CallDoes, IsTooLong, IsUnmade, LineDoes, OpensFirst, SameForks, StopsAt};
+ghost use Rattle.script_run.specs.Line.{start_of, assigned, CallDoes, IsTooLong, IsUnmade, LineDoes, OpensFirst, SameForks, StatementDoes, StopsAt};
+ghost use Rattle.script_run.specs.Turns.{moment, stores_of};
 
 use crate::counted::Counted;
+use crate::moments::Moments;
 use fork_disk::store::ForkStore;
 use mac_base::error::HostFull;
 use mac_base::zone_spec::ZoneSpec;
@@ -42,8 +44,26 @@ impl<S: ForkStore> Machine<S> {
         }
     }
 
+    /// Opens file 1, and puts what that prints in place of the text. The moments before it and after it are noted, with
+    /// what the writer has taken by then.
+    pub fn open_first<W>(
+        &mut self,
+        text: &mut ReplyText,
+        writer: &Counted<W>,
+        moments: &mut Moments<S>,
+    ) -> Result<(), HostFull>
+        ensures notes { moments.new ≡ moments.old ++ moment writer.now.passed (stores_of self.old) ∷ moment writer.now.passed (stores_of self.new) ∷ [] }
+        ensures opens { OnOk result (OpensFirst S.ForkStore self.old text.new self.new) }
+        ensures unchanged { OnErr result (SameForks S.ForkStore (stores_of self.old) (stores_of self.new)) }
+    {
+        moments.note(writer, self);
+        let opened = self.open_file(text);
+        moments.note(writer, self);
+        opened
+    }
+
     /// Opens file 1, and puts what that prints in place of the text: the line of number 0 where it is refused.
-    pub fn open_first(&mut self, text: &mut ReplyText) -> Result<(), HostFull>
+    fn open_file(&mut self, text: &mut ReplyText) -> Result<(), HostFull>
         ensures opens { OnOk result (OpensFirst S.ForkStore self.old text.new self.new) }
         ensures unchanged { OnErr result (SameForks S.ForkStore self.old.toolbox.resources.stores self.new.toolbox.resources.stores) }
     {
@@ -72,21 +92,37 @@ impl<S: ForkStore> Machine<S> {
     }
 
     /// Makes the call of a line and assigns its first result, or queues its answer, and puts what it prints in place of
-    /// the text. That the line begins is noted beside what the writer has taken by then.
+    /// the text. The moments before it and after it are noted, with what the writer has taken by then.
     pub fn run_line<W>(
         &mut self,
         line: &Line<'_>,
         text: &mut ReplyText,
-        writer: &mut Counted<W>,
+        writer: &Counted<W>,
+        moments: &mut Moments<S>,
     ) -> Result<(), HostFull>
-        ensures begins { writer.new ≡ record writer.old { begun = writer.old.begun ++ writer.old.passed ∷ [] } }
+        ensures notes { moments.new ≡ moments.old ++ moment writer.now.passed (stores_of self.old) ∷ moment writer.now.passed (stores_of self.new) ∷ [] }
         ensures does { OnOk result (LineDoes S.ForkStore self.old line.now text.new self.new) }
         ensures stops { OnErr result (StopsAt S.ForkStore self.old line.now.number line.now.statement self.new) }
     {
-        writer.begin();
+        moments.note(writer, self);
+        let ran = self.run_statement(line.number, &line.statement, text);
+        moments.note(writer, self);
+        ran
+    }
+
+    /// Does what the line of this number says, and puts what it prints in place of the text.
+    fn run_statement(
+        &mut self,
+        number: u32,
+        statement: &Statement<'_>,
+        text: &mut ReplyText,
+    ) -> Result<(), HostFull>
+        ensures does { OnOk result (StatementDoes S.ForkStore self.old number statement.now text.new self.new) }
+        ensures stops { OnErr result (StopsAt S.ForkStore self.old number statement.now self.new) }
+    {
         text.clear();
-        match &line.statement {
-            Statement::Call(call) => self.run_call(line.number, call, text),
+        match statement {
+            Statement::Call(call) => self.run_call(number, call, text),
             Statement::Answer(answer) => self.answers.push(answer_of(answer, &self.variables)),
         }
     }

@@ -4,17 +4,20 @@ ghost use Rattle.std.specs.Prelude.{◌≡◌, ◌≢◌, ◌≤◌, ◌⊎◌, 
 ghost use Rattle.script_text.specs.Script.{IsScript};
 ghost use Rattle.script_lang.specs.Text.{fault_text, no_memory_text};
 ghost use Rattle.res_files.specs.Standing.{most_files};
-ghost use Rattle.script_run.specs.Counting.{Gave, RoseByOne, Took, begun_since};
+ghost use Rattle.script_run.specs.Counting.{Gave, RoseByOne, Took};
 ghost use Rattle.script_run.specs.Exact.{RunsAgree};
 ghost use Rattle.script_run.specs.Headline.{RunShows};
 ghost use Rattle.script_run.specs.Line.{start_of};
 ghost use Rattle.script_run.specs.Recovery.{RunRecovers};
-ghost use Rattle.script_run.specs.Run.{Ends, Tells, stores_of};
+ghost use Rattle.script_run.specs.Run.{Ends, Tells};
+ghost use Rattle.script_run.specs.Seen.{KeepsSeen};
 ghost use Rattle.script_run.specs.Starting.{TellsNoScript};
+ghost use Rattle.script_run.specs.Turns.{Notes, stores_of};
 
 use crate::counted::Counted;
 use crate::end::RunEnd;
 use crate::machine::Machine;
+use crate::moments::Moments;
 use crate::reading::{NoScript, read_script};
 use crate::ready::{Ready, make_ready};
 use crate::writing::write_whole;
@@ -28,20 +31,23 @@ use std::alloc::Global;
 use std::io::{Read, Write};
 
 /// Runs the script that the reader gives on a new zone and the resource files of some stores, and writes each reply
-/// when it is made. The first file is opened before the first line. The stores come back.
+/// when it is made. The first file is opened before the first line. The moments before and after each call are noted.
+/// The stores come back.
 pub fn run<S: ForkStore, R: Read, W: Write>(
     alloc: Global,
     reader: &mut Counted<R>,
     writer: &mut Counted<W>,
+    moments: &mut Moments<S>,
     spec: ZoneSpec,
     stores: Vec<S>,
 ) -> (RunEnd, Vec<S>)
     requires { length stores.items ≤ most_files }
     // The input is the bytes that the reader says it has; where it doesn't say, those that it gave. What was written is
-    // what the input's lines print from a new zone on, as far as the run came, each line's before the next line began, and
-    // the stores are as they left them.
+    // what the input's lines print from a new zone on, as far as the run came, and the stores are as they left them. Each
+    // line's text was written once its call was done, and before the next line began: so say the moments that were noted.
     ensures ends { (given : List ℕ) × (written : List ℕ) × Gave R.remaining reader.old given reader.new × Took W.contents writer.old written writer.new
-        × Ends S.ForkStore (start_of spec stores.items) (unwrap_or (R.remaining reader.old.inner) given) result.0 written (begun_since writer.old writer.new) result.1.items }
+        × Notes writer.old.passed moments.old moments.new
+        (λ noted. Ends S.ForkStore (start_of spec stores.items) (unwrap_or (R.remaining reader.old.inner) given) result.0 written noted result.1.items) }
 
     // Whatever lines print is the replies of calls over which every handle and pointer shows the bytes last put there,
     // pointers and locked handles stay where they are, and blocks are lost and memFullErr is given only where they may.
@@ -50,6 +56,10 @@ pub fn run<S: ForkStore, R: Read, W: Write>(
     // Where stores have journals, a crash at any moment leaves each file so that the next start finds it as before an
     // update that was running, or as that saves it, and never older than an update that succeeded.
     ensures recovers { RunRecovers S.ForkStore }
+
+    // So over any runs, each of which a crash cut off at any time: once the reply of a call that settled a file had been
+    // written in one of them, the next start finds the fork that it settled, or what a later call saves that had begun.
+    ensures kept { KeepsSeen S.ForkStore }
 
     // Two runs of the same lines, with the same sizes of the zone and the same forks, print the same and leave the same
     // zone, loans, files and forks, where no device failed.
@@ -76,7 +86,7 @@ pub fn run<S: ForkStore, R: Read, W: Write>(
         mut reply,
     } = ready;
     let mut machine = Machine::new(alloc, memory, variables, stores);
-    let end = run_lines(&mut machine, &script, &mut reply, writer);
+    let end = run_lines(&mut machine, &script, &mut reply, writer, moments);
     (end, machine.into_stores())
 }
 
@@ -86,21 +96,22 @@ fn run_lines<S: ForkStore, W: Write>(
     script: &[Line<'_>],
     reply: &mut ReplyText,
     writer: &mut Counted<W>,
+    moments: &mut Moments<S>,
 ) -> RunEnd
-    ensures ends { (written : List ℕ) × Took W.contents writer.old written writer.new
-        × ((input : List ℕ) → IsScript input script.now → Ends S.ForkStore machine.old input result written (begun_since writer.old writer.new) (stores_of machine.new)) }
+    ensures ends { (written : List ℕ) × Took W.contents writer.old written writer.new × Notes writer.old.passed moments.old moments.new
+        (λ noted. (input : List ℕ) → IsScript input script.now → Ends S.ForkStore machine.old input result written noted (stores_of machine.new)) }
     ensures no_read_fault { result ≢ RunEnd.ReadFault }
     ensures write_fault { result ≡ RunEnd.WriteFault → RoseByOne writer.old.failures writer.new.failures }
     ensures no_write_failed { result ≢ RunEnd.WriteFault → writer.new.failures ≡ writer.old.failures }
 {
-    let Ok(()) = machine.open_first(reply) else {
+    let Ok(()) = machine.open_first(reply, writer, moments) else {
         return tell_no_memory(writer);
     };
     if !write_whole(writer, reply.as_slice()) {
         return RunEnd::WriteFault;
     }
     for line in script {
-        let Ok(()) = machine.run_line(line, reply, writer) else {
+        let Ok(()) = machine.run_line(line, reply, writer, moments) else {
             return tell_no_memory(writer);
         };
         if !write_whole(writer, reply.as_slice()) {
@@ -113,7 +124,6 @@ fn run_lines<S: ForkStore, W: Write>(
 /// Writes why there is no script, and says how the run ended by that.
 fn tell_no_script<W: Write>(alloc: Global, writer: &mut Counted<W>, why: NoScript) -> RunEnd
     ensures ends { (written : List ℕ) × Took W.contents writer.old written writer.new × TellsNoScript why result written }
-    ensures begun { writer.new.begun ≡ writer.old.begun }
     ensures read_fault { (result ≡ RunEnd.ReadFault) ↔ (why ≡ NoScript.ReadFault) }
     ensures write_fault { result ≡ RunEnd.WriteFault → RoseByOne writer.old.failures writer.new.failures }
     ensures no_write_failed { result ≢ RunEnd.WriteFault → writer.new.failures ≡ writer.old.failures }
@@ -129,7 +139,6 @@ fn tell_no_script<W: Write>(alloc: Global, writer: &mut Counted<W>, why: NoScrip
 fn tell_fault<W: Write>(alloc: Global, writer: &mut Counted<W>, line: u32, wrong: Wrong) -> RunEnd
     ensures ends { (written : List ℕ) × Took W.contents writer.old written writer.new
         × (Tells (RunEnd.ScriptFault line wrong) (fault_text line) result written ⊎ Tells RunEnd.NoMemory no_memory_text result written) }
-    ensures begun { writer.new.begun ≡ writer.old.begun }
     ensures no_read_fault { result ≢ RunEnd.ReadFault }
     ensures write_fault { result ≡ RunEnd.WriteFault → RoseByOne writer.old.failures writer.new.failures }
     ensures no_write_failed { result ≢ RunEnd.WriteFault → writer.new.failures ≡ writer.old.failures }
@@ -148,7 +157,6 @@ fn tell_fault<W: Write>(alloc: Global, writer: &mut Counted<W>, line: u32, wrong
 pub fn tell_no_memory<W: Write>(writer: &mut Counted<W>) -> RunEnd
     ensures ends { (written : List ℕ) × Took W.contents writer.old written writer.new
         × Tells RunEnd.NoMemory no_memory_text result written }
-    ensures begun { writer.new.begun ≡ writer.old.begun }
     ensures no_read_fault { result ≢ RunEnd.ReadFault }
     ensures write_fault { result ≡ RunEnd.WriteFault → RoseByOne writer.old.failures writer.new.failures }
     ensures no_write_failed { result ≢ RunEnd.WriteFault → writer.new.failures ≡ writer.old.failures }

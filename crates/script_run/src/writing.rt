@@ -11,7 +11,6 @@ use std::io::Write;
 pub fn write_whole<W: Write>(writer: &mut Counted<W>, text: &[u8]) -> bool
     ensures written { (written : List ℕ) × Took W.contents writer.old written writer.new
         × MatchBool result (written ≡ text.now) (IsProperFront written text.now) }
-    ensures begun { writer.new.begun ≡ writer.old.begun }
     ensures failures { MatchBool result (writer.new.failures ≡ writer.old.failures) (RoseByOne writer.old.failures writer.new.failures) }
 {
     let mut rest = text;

@@ -6,7 +6,7 @@ ghost use Rattle.res_files.specs.Standing.{most_files};
 use fork_disk::store::PlainStore;
 use fork_disk::{FailAt, MemDisk};
 use mac_base::zone_spec::ZoneSpec;
-use script_run::{Counted, RunEnd, run};
+use script_run::{Counted, Moments, RunEnd, run};
 use std::alloc::{AllocError, Global};
 use std::io;
 use std::io::{ErrorKind, Read, Write};
@@ -161,7 +161,8 @@ pub(crate) fn run_in(
     let stores = one_disk(alloc, bytes, turn)?;
     let mut reader = Counted::new(reader_of(plan));
     let mut writer = Counted::new(writer_of(alloc, plan));
-    let (end, stores) = run(alloc, &mut reader, &mut writer, spec, stores);
+    let mut moments = Moments::new();
+    let (end, stores) = run(alloc, &mut reader, &mut writer, &mut moments, spec, stores);
     let failures = (reader.failures(), writer.failures());
     let paper = writer.into_inner();
     Ok(Seen {

@@ -4,7 +4,7 @@ use Rattle.script_run.specs.Line.{opening_text}
 use Rattle.script_run.proofs.Opening.{machine_opened, on_fault, on_value, opening_keeps_forks, unchanged_keeps_forks}
 use Rattle.mac_base.specs.declared.call.Call.TheVariants.{Resource}
 use Rattle.mac_base.specs.declared.resource_call.ResourceCall.TheVariants.{OpenResFile}
-use Rattle.script_run.proofs.machine.Machine.open_first.Goals as goal
+use Rattle.script_run.proofs.machine.Machine.open_file.Goals as goal
 
 pub returns-clause-opens : goal.returns-clause-opens
 returns-clause-opens g c =
