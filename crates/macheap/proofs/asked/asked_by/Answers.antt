@@ -1,6 +1,6 @@
 use Rattle.std.proofs.Common.{◌≡◌, Bool, map, codes, refl, sym, subst, ap, ◌∙◌, List, ℕ, Bor}
 use Rattle.macheap.specs.Asking.{GivesNumbers, IsAllowed, Match, zone_fault, of_zone, of_limit, of_base, of_mode}
-use Rattle.macheap.specs.Options.{IsNoNumber, IsNumberOf, allows_large, forks_of, is_set, journals_of, value_of}
+use Rattle.macheap.specs.Options.{IsNumberOf, allows_large, forks_of, is_set, journals_of, value_of}
 use Rattle.macheap.proofs.Found.{number_found, value_found, no_number_found, files_asks, names_found, match_of, matched, unmatched, error_kind, full_asks, no_number_error}
 use Rattle.clap.specs.Words.{Text}
 use Rattle.macheap.proofs.asked.asked_by.Goals as goal

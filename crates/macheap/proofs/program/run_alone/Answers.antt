@@ -1,4 +1,4 @@
-use Rattle.std.proofs.Common.{◌≡◌, ◌≢◌, ◌++◌, ℕ, List, [], length, map, refl, sym, ap, ◌∙◌, Bor}
+use Rattle.std.proofs.Common.{◌++◌, ℕ, List, [], map, refl, sym, ap, ◌∙◌, Bor}
 use Rattle.std.proofs.lemmas.List.{append-nil}
 use Rattle.clap.specs.Words.{Text}
 use Rattle.script_run.proofs.Known.{Gave-none}

@@ -1,4 +1,4 @@
-use Rattle.std.proofs.Common.{◌≡◌, List, ℕ, [], ◌∷◌, ◌++◌, ◌+◌, Ok, Err, take, map, sym, ap, subst, ◌∙◌, refl, append_assoc, slice_index_or, Bor}
+use Rattle.std.proofs.Common.{List, ℕ, [], ◌∷◌, ◌++◌, ◌+◌, Ok, Err, take, map, sym, ap, subst, ◌∙◌, refl, append_assoc, slice_index_or, Bor}
 use Rattle.std.proofs.lemmas.List.{append-nil, map-append, take_all}
 use Rattle.clap.specs.Words.{Text}
 use Rattle.macheap.specs.Claiming.{AreNamed, IsNamed}

@@ -1,4 +1,4 @@
-use Rattle.std.proofs.Common.{◌≡◌, ◌++◌, ◌∷◌, ◌<◌, ◌≤◌, ◌+◌, [], List, ℕ, Ok, Err, take, map, length, refl, sym, ap, subst, ◌∙◌, append_assoc, length-append, arith, slice_index_or, Bor}
+use Rattle.std.proofs.Common.{◌≡◌, ◌++◌, ◌∷◌, ◌<◌, ◌+◌, [], List, ℕ, Ok, Err, take, map, length, refl, sym, ap, subst, ◌∙◌, append_assoc, length-append, arith, slice_index_or, Bor}
 use Rattle.std.specs.Vec.Iter.{into_iter_items}
 use Rattle.std.proofs.lemmas.List.{append-nil, map-append}
 use Rattle.clap.specs.Words.{Text}

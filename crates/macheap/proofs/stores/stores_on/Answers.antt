@@ -1,4 +1,4 @@
-use Rattle.std.proofs.Common.{◌≡◌, ◌++◌, ◌∷◌, [], List, ℕ, length, refl, sym, ap, subst, ◌∙◌, append_assoc, length-append, arith}
+use Rattle.std.proofs.Common.{◌≡◌, ◌++◌, ◌∷◌, [], List, length, refl, sym, ap, subst, ◌∙◌, append_assoc, length-append, arith}
 use Rattle.macheap.specs.Stores.{AreOn}
 use Rattle.macheap.proofs.Opening.{AreOn-push}
 use Rattle.macheap.proofs.stores.stores_on.Goals as goal
