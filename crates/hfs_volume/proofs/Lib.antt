@@ -1,0 +1,3 @@
+pub mod ForkRanges
+pub mod MoreExtents
+pub mod Opened
