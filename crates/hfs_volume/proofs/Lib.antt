@@ -1,3 +1,5 @@
+pub mod Entered
 pub mod ForkRanges
+pub mod Found
 pub mod MoreExtents
 pub mod Opened

@@ -1,5 +1,5 @@
 -- Records of the catalog.
-use Rattle.std.specs.Prelude.{ℕ, ◌+◌, ◌-◌, ◌*◌, ◌/◌, ◌==◌, nat_le, ◌&&◌, ◌||◌, not, if◌then◌else◌, Bool, List, ◌++◌, length, take, drop, replicate, slice_index, Result, Ok, Err}
+use Rattle.std.specs.Prelude.{ℕ, ◌+◌, ◌*◌, ◌/◌, ◌==◌, nat_le, ◌&&◌, ◌||◌, not, if◌then◌else◌, Bool, List, ◌++◌, length, take, drop, replicate, slice_index, Result, Ok, Err}
 use Rattle.std.specs.List.{slice_range}
 use Rattle.byteorder.specs.Endian.{big_from}
 use Rattle.hfs_tree.specs.declared.extent.Extent.{Extent}
@@ -28,9 +28,9 @@ has_body body = let kind = slice_index body 0 in let size = length body in
     if kind == 1 then nat_le 70 size else if kind == 2 then nat_le 102 size
     else ((kind == 3) || (kind == 4)) && nat_le 15 size && nat_le (slice_index body 14) 31 && nat_le (15 + slice_index body 14) size
 
--- the first 102 bytes, and zeros where there are fewer
+-- bytes, and zeros where they are fewer than 102
 abbrev pub padded_body : List ℕ → List ℕ
-padded_body bytes = let first = take 102 bytes in first ++ replicate (102 - length first) 0
+padded_body bytes = bytes ++ drop (length bytes) (replicate 102 0)
 
 -- what a record is read as
 abbrev pub entry_in : ℕ → List ℕ → Entry
@@ -38,7 +38,7 @@ entry_in place bytes = record {
   place = place + body_place bytes;
   parent = big_from 2 4 bytes;
   name = name_in (slice_range bytes 7 (7 + slice_index bytes 6));
-  body = padded_body (drop (body_place bytes) bytes);
+  body = padded_body (take 102 (drop (body_place bytes) bytes));
 }
 
 abbrev pub entry_at : Leaf → ℕ → Result Entry TreeFault

@@ -1,6 +1,6 @@
 //! Records of the catalog.
 
-ghost use Rattle.std.specs.Prelude.{◌≡◌, ◌<◌, length, IfOk};
+ghost use Rattle.std.specs.Prelude.{◌≡◌, ◌<◌, ◌≤◌, length, take, IfOk};
 ghost use Rattle.hfs_volume.specs.Entries.{body_place, has_key, has_body, padded_body, entry_at, is_folder, is_file, id_of, key_of, size_of, first_extents_of};
 
 use crate::name::Name;
@@ -74,13 +74,21 @@ fn has_body(body: &[u8]) -> bool
     }
 }
 
-/// The first 102 bytes, and zeros where there are fewer.
+/// The first bytes, so many at most.
+fn first_bytes(bytes: &[u8], count: usize) -> &[u8]
+    ensures value { result.now ≡ take count bytes.now }
+    ensures few { length result.now ≤ count }
+{
+    &bytes[..count.min(bytes.len())]
+}
+
+/// Bytes, and zeros where they are fewer than 102.
 fn body_array(bytes: &[u8]) -> [u8; 102]
+    requires { length bytes.now ≤ 102 }
     ensures { result ≡ padded_body bytes.now }
 {
     let mut body = [0; 102];
-    let count = bytes.len().min(102);
-    body[..count].copy_from_slice(&bytes[..count]);
+    body[..bytes.len()].copy_from_slice(bytes);
     body
 }
 
@@ -101,7 +109,7 @@ impl TreeRow for Entry {
             place: leaf.row_place(row) + place as u64,
             parent: read_four(bytes, 2),
             name: Name::from_bytes(&bytes[7..7 + bytes[6] as usize]),
-            body: body_array(body),
+            body: body_array(first_bytes(body, 102)),
         })
     }
 }

@@ -1,13 +1,21 @@
 //! The extents of forks.
 
-ghost use Rattle.std.specs.Prelude.{◌≡◌, ◌<◌, ◌≤◌, ◌^◌, length, find, IfOk};
+ghost use Rattle.std.specs.Prelude.{◌≡◌, ◌<◌, ◌≤◌, ◌^◌, length, find, IfOk, option_copied};
 ghost use Rattle.hfs_volume.specs.Overflow.{fork_extents, next_extents, comes_after, block_count};
 
 use crate::overflow::Overflow;
 use hfs_tree::extent::{Extent, read_extents};
 use std::alloc::{AllocError, Global};
 
-/// The extents of the record of a fork that come after so many blocks, if there is one.
+/// The record of the extents of a fork that come after so many blocks, if there is one.
+fn find_record(rows: &[Overflow], id: u32, fork: u8, blocks: u64) -> Option<&Overflow>
+    ensures { option_copied result ≡ find (comes_after id fork blocks) rows.now }
+{
+    rows.iter()
+        .find(|row| row.id == id && row.fork == fork && row.after as u64 == blocks)
+}
+
+/// The extents of a fork that come after so many blocks.
 fn extents_after(
     alloc: Global,
     rows: &[Overflow],
@@ -18,10 +26,7 @@ fn extents_after(
     ensures extents { IfOk result (λ extents. extents.items ≡ next_extents (find (comes_after id fork blocks) rows.now)) }
     ensures few { IfOk result (λ extents. length extents.items ≤ 3) }
 {
-    let row = rows
-        .iter()
-        .find(|row| row.id == id && row.fork == fork && row.after as u64 == blocks);
-    match row {
+    match find_record(rows, id, fork, blocks) {
         Some(row) => read_extents(alloc, &row.extents, 0),
         None => Ok(Vec::new(alloc)),
     }
@@ -53,11 +58,11 @@ pub(crate) fn extents_of(
     for step in 0..needed {
         let blocks = count_blocks(&extents);
         if needed <= blocks {
-            break;
+            return Ok(extents);
         }
         let more = extents_after(alloc, rows, id, fork, blocks)?;
         if more.is_empty() {
-            break;
+            return Ok(extents);
         }
         extents.extend_from_slice(&more)?;
     }
