@@ -2,6 +2,7 @@
 use Rattle.std.proofs.Common.{◌≡◌, ℕ, ◌+◌, ◌-◌, ◌*◌, ◌^◌, ◌<◌, ◌≤◌, ◌==◌, ◌⊎◌, inl, inr, Bool, true, false, if◌then◌else◌, min, List, [], ◌∷◌, ◌++◌, length, take, drop, get_or, refl, sym, ap, ◌∙◌, arith}
 use Rattle.std.proofs.lemmas.List.{append_assoc, append-nil, at_drop_more, at_drop_all, length-take, length-take-le, length-drop, take-append-le, take-take}
 use Rattle.std.proofs.lemmas.Bool.{and_parts, leb-true, eqb-true, cases_lt}
+use Rattle.std.proofs.lemmas.List.Sums.{sum_by-cons}
 use Rattle.std.proofs.Math.Nat.{add-mul}
 use Rattle.std.specs.List.{AllByRecursion, list_all}
 use lib.Seq.{take-append-add, take-nil}
@@ -108,7 +109,8 @@ module _ (layout : Layout) where
   unfolding ranges_in total
   total_is [] size enough = omega (arith, enough)
   total_is (extent ∷ extents) size enough =
-      let both : block_count (extent ∷ extents) * layout.size ≡ extent.count * layout.size + block_count extents * layout.size = add-mul extent.count (block_count extents) layout.size in
+      let both : block_count (extent ∷ extents) * layout.size ≡ extent.count * layout.size + block_count extents * layout.size =
+      ap (λ (k : ℕ). k * layout.size) (sum_by-cons (λ (e : Extent). e.count) extent extents) ∙ add-mul extent.count (block_count extents) layout.size in
       by_case (size == 0) refl (total_is extents (size - extent.count * layout.size) (omega (arith, enough, both)))
     where
       others : List Range
