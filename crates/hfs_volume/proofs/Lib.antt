@@ -2,4 +2,3 @@ pub mod Entered
 pub mod ForkRanges
 pub mod Found
 pub mod MoreExtents
-pub mod Opened
