@@ -50,11 +50,11 @@ module _ (folders : BTreeMap ℕ Entry) (entries : List Entry) (i : ℕ) (d : En
 
   -- the record is of no folder with this id
   other : (q : ℕ) → is_folder_with q (get_or entries i d) ≡ false → get nat_cmp folders q ≡ find (is_folder_with q) (take (i + 1) entries)
-  other q no = sym (step q ∙ ap (λ (b : Bool). or_else (get nat_cmp folders q) (cond b (Some (get_or entries i d)) None)) no ∙ or_none (get nat_cmp folders q))
+  other q isnt = sym (step q ∙ ap (λ (b : Bool). or_else (get nat_cmp folders q) (cond b (Some (get_or entries i d)) None)) isnt ∙ or_none (get nat_cmp folders q))
 
   -- the record is of no folder
   pub no_folder : is_folder (get_or entries i d) ≡ false → HasFolders folders (take (i + 1) entries)
-  no_folder no = record { each = λ q. other q (ap (λ (b : Bool). b && (id_of (get_or entries i d) == q)) no) }
+  no_folder isnt = record { each = λ q. other q (ap (λ (b : Bool). b && (id_of (get_or entries i d) == q)) isnt) }
 
   unlike : (q : ℕ) → (id_of (get_or entries i d) ≢ q) → is_folder_with q (get_or entries i d) ≡ false
   unlike q ne = ap (λ (b : Bool). is_folder (get_or entries i d) && b) (ne_eqb (id_of (get_or entries i d)) q ne) ∙ and_false (is_folder (get_or entries i d))
@@ -82,5 +82,5 @@ module _ (folders : BTreeMap ℕ Entry) (entries : List Entry) (i : ℕ) (d : En
           (here ∙ sym (step id ∙ none_or (get nat_cmp folders id) _ none ∙ ap (λ (b : Bool). cond b (Some (get_or entries i d)) None) both))
         where
           both : is_folder_with id (get_or entries i d) ≡ true
-          both = rw (folder, eq-eqb (id_of (get_or entries i d)) id (sym is)) refl
+          both = ap (λ (b : Bool). b && (id_of (get_or entries i d) == id)) folder ∙ ap (λ (b : Bool). true && b) (eq-eqb (id_of (get_or entries i d)) id (sym is))
       by_case q (inr ne) = others q (apart id q ne) ∙ other q (unlike q (λ e. ne (is ∙ e)))
