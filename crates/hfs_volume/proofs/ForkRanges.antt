@@ -130,6 +130,7 @@ module _ (layout : Layout) where
       by_case bytes (layout.offset + extent.start * layout.size) (extent.count * layout.size) size (bytes_in bytes layout extents)
       (ranges_in layout (size - extent.count * layout.size) extents) (λ none. none_in extents (size - extent.count * layout.size) none)
       (size == 0) refl there (λ others. bytes_are bytes extents (size - extent.count * layout.size) others)
+
 -- ranges that are there lie within the volume
 all_short : (size : ℕ) (ranges : List Range) → size < 2 ^ 64 → list_all (is_there size) ranges ≡ true → AllByRecursion IsShort ranges
 all_short size [] low there = tt

@@ -55,10 +55,7 @@ fn has_key(bytes: &[u8]) -> bool
     ensures { result ≡ has_key bytes.now }
 {
     let size = bytes[0] as usize;
-    6 <= size
-        && size <= 37
-        && body_place(bytes) + 2 <= bytes.len()
-        && 6 + bytes[6] as usize <= size
+    6 <= size && size <= 37 && body_place(bytes) + 2 <= bytes.len() && 6 + bytes[6] as usize <= size
 }
 
 /// Whether these are the data of a folder, a file or a thread.

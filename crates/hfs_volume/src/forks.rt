@@ -11,8 +11,7 @@ use std::alloc::{AllocError, Global};
 fn find_record(rows: &[Overflow], id: u32, fork: u8, blocks: u64) -> Option<&Overflow>
     ensures { option_copied result ≡ find (comes_after id fork blocks) rows.now }
 {
-    rows.iter()
-        .find(|row| row.id == id && row.fork == fork && row.after as u64 == blocks)
+    rows.iter().find(|row| row.id == id && row.fork == fork && row.after as u64 == blocks)
 }
 
 /// The extents of a fork that come after so many blocks.

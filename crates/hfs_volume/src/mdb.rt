@@ -15,6 +15,7 @@ use std::alloc::Global;
 
 /// What the signature of a volume is, and that of one that it may wrap.
 const HFS: u16 = 0x4244;
+
 const HFS_PLUS: u16 = 0x482B;
 
 /// The master directory block: where in the volume it is, and its bytes.

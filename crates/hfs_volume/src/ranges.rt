@@ -102,7 +102,14 @@ pub fn ranges_of_fork(
     let size = file.fork_size(which);
     let needed = blocks_for(layout, size);
     let first = file.first_extents(alloc, which)?;
-    let extents = extents_of(alloc, &volume.overflow, file.id(), which.key(), needed, first)?;
+    let extents = extents_of(
+        alloc,
+        &volume.overflow,
+        file.id(),
+        which.key(),
+        needed,
+        first,
+    )?;
     if count_blocks(&extents).saturating_mul(layout.size as u64) < size as u64 {
         return Ok(Err(ForkFault::Cover(file.place)));
     }

@@ -5,8 +5,7 @@ use crate::entry::Which;
 use crate::fault::{ForkFault, OpenFault, VolumeFault};
 use crate::name::Name;
 use crate::ranges::ranges_of_fork;
-use crate::volume::Volume;
-use crate::volume::read_volume;
+use crate::volume::{Volume, read_volume};
 use disk_ranges::read::Range;
 use fork_disk::MemDisk;
 use hfs_tree::fault::{Condition, TreeFault};
@@ -15,11 +14,17 @@ use std::process::Abort;
 use std::test::Fail;
 
 const MDB: usize = 1024;
+
 const COPY: usize = 6144;
+
 const CATALOG: usize = 2048;
+
 const LEAF: usize = 2560;
+
 const FILE: usize = LEAF + 164;
+
 const EXTENTS: usize = 3072;
+
 const OVERFLOW: usize = 4096;
 
 /// Puts bytes at a place.
@@ -38,7 +43,11 @@ fn put_mdb(bytes: &mut Vec<u8>, at: usize) {
     put(bytes, at + 18, b"\x00\x0C\x00\x00\x02\x00");
     put(bytes, at + 28, b"\x00\x04");
     put(bytes, at + 36, b"\x04Disk");
-    put(bytes, at + 130, b"\x00\x00\x04\x00\x00\x02\x00\x01\x00\x04\x00\x01");
+    put(
+        bytes,
+        at + 130,
+        b"\x00\x00\x04\x00\x00\x02\x00\x01\x00\x04\x00\x01",
+    );
     put(bytes, at + 146, b"\x00\x00\x04\x00\x00\x00\x00\x02");
 }
 
@@ -55,14 +64,30 @@ fn volume(alloc: Global) -> Result<Vec<u8>, AllocError> {
     put(&mut bytes, EXTENTS + 24, b"\x00\x00\x00\x01");
     put(&mut bytes, EXTENTS + 32, b"\x02\x00");
     put(&mut bytes, OVERFLOW + 8, b"\xFF\x01\x00\x01");
-    put(&mut bytes, OVERFLOW + 14, b"\x07\x00\x00\x00\x00\x10\x00\x01\x00\x06\x00\x01");
+    put(
+        &mut bytes,
+        OVERFLOW + 14,
+        b"\x07\x00\x00\x00\x00\x10\x00\x01\x00\x06\x00\x01",
+    );
     put(&mut bytes, OVERFLOW + 508, b"\x00\x22\x00\x0E");
     put(&mut bytes, LEAF + 8, b"\xFF\x01\x00\x03");
-    put(&mut bytes, LEAF + 14, b"\x0A\x00\x00\x00\x00\x01\x04Disk\x00\x01");
+    put(
+        &mut bytes,
+        LEAF + 14,
+        b"\x0A\x00\x00\x00\x00\x01\x04Disk\x00\x01",
+    );
     put(&mut bytes, LEAF + 26 + 6, b"\x00\x00\x00\x02");
-    put(&mut bytes, LEAF + 96, b"\x06\x00\x00\x00\x00\x02\x00\x00\x03");
+    put(
+        &mut bytes,
+        LEAF + 96,
+        b"\x06\x00\x00\x00\x00\x02\x00\x00\x03",
+    );
     put(&mut bytes, LEAF + 104 + 10, b"\x00\x00\x00\x01\x04Disk");
-    put(&mut bytes, LEAF + 150, b"\x0D\x00\x00\x00\x00\x02\x07Read me\x02");
+    put(
+        &mut bytes,
+        LEAF + 150,
+        b"\x0D\x00\x00\x00\x00\x02\x07Read me\x02",
+    );
     put(&mut bytes, FILE + 20, b"\x00\x00\x00\x10");
     put(&mut bytes, FILE + 26, b"\x00\x00\x00\x05\x00\x00\x02\x00");
     put(&mut bytes, FILE + 74, b"\x00\x03\x00\x01");
@@ -130,17 +155,37 @@ fn takes_the_copy_where_it_must(rt: HostRuntime) -> Result<(), Fail> {
 
 #[test]
 fn names_the_first_fault(rt: HostRuntime) -> Result<(), Fail> {
-    refuses(&rt, read_with(rt.alloc(), MDB + 124, b"H+"), VolumeFault::Wrapper(1148));
-    refuses(&rt, read_with(rt.alloc(), LEAF + 8, b"\x00"), in_leaf(Condition::NoLeaf, 0, 8));
-    refuses(&rt, read_with(rt.alloc(), LEAF + 150, b"\x05"), in_leaf(Condition::Key, 2, 150));
-    refuses(&rt, read_with(rt.alloc(), LEAF + 104, b"\x09"), in_leaf(Condition::Body, 1, 96));
+    refuses(
+        &rt,
+        read_with(rt.alloc(), MDB + 124, b"H+"),
+        VolumeFault::Wrapper(1148),
+    );
+    refuses(
+        &rt,
+        read_with(rt.alloc(), LEAF + 8, b"\x00"),
+        in_leaf(Condition::NoLeaf, 0, 8),
+    );
+    refuses(
+        &rt,
+        read_with(rt.alloc(), LEAF + 150, b"\x05"),
+        in_leaf(Condition::Key, 2, 150),
+    );
+    refuses(
+        &rt,
+        read_with(rt.alloc(), LEAF + 104, b"\x09"),
+        in_leaf(Condition::Body, 1, 96),
+    );
     Ok(())
 }
 
 #[test]
 fn refuses_short_bytes(rt: HostRuntime) -> Result<(), Fail> {
     let bytes = vec![in rt.alloc(); 0; 1200]?;
-    refuses(&rt, read_volume(rt.alloc(), &mut MemDisk::from_bytes(bytes)), VolumeFault::Room(1200));
+    refuses(
+        &rt,
+        read_volume(rt.alloc(), &mut MemDisk::from_bytes(bytes)),
+        VolumeFault::Room(1200),
+    );
     Ok(())
 }
 
@@ -152,11 +197,7 @@ fn fork_with(alloc: Global, at: usize, new: &[u8]) -> Option<Result<Vec<Range>, 
 }
 
 /// Its ranges are these.
-fn has_ranges(
-    rt: &impl Abort,
-    found: Option<Result<Vec<Range>, ForkFault>>,
-    ranges: &[Range],
-) {
+fn has_ranges(rt: &impl Abort, found: Option<Result<Vec<Range>, ForkFault>>, ranges: &[Range]) {
     match found {
         Some(Ok(found)) => assert_eq!(rt; found.as_slice(), ranges),
         _ => assert!(rt; false),
@@ -164,11 +205,7 @@ fn has_ranges(
 }
 
 /// It is refused for this.
-fn lacks_ranges(
-    rt: &impl Abort,
-    found: Option<Result<Vec<Range>, ForkFault>>,
-    fault: ForkFault,
-) {
+fn lacks_ranges(rt: &impl Abort, found: Option<Result<Vec<Range>, ForkFault>>, fault: ForkFault) {
     match found {
         Some(Err(found)) => assert_eq!(rt; found, fault),
         _ => assert!(rt; false),
@@ -197,11 +234,27 @@ fn finds_forks(rt: HostRuntime) {
         },
     ];
     has_ranges(&rt, fork_with(alloc, 0, b""), &[first]);
-    has_ranges(&rt, fork_with(alloc, FILE + 74, b"\x00\x06\x00\x01\x00\x03\x00\x01"), &[other]);
+    has_ranges(
+        &rt,
+        fork_with(alloc, FILE + 74, b"\x00\x06\x00\x01\x00\x03\x00\x01"),
+        &[other],
+    );
     has_ranges(&rt, fork_with(alloc, FILE + 26, b"\x00\x00\x00\x00"), &[]);
     has_ranges(&rt, fork_with(alloc, FILE + 26, b"\x00\x00\x02\x01"), &both);
     let place = FILE as u64;
-    lacks_ranges(&rt, fork_with(alloc, FILE + 26, b"\x00\x00\x04\x01"), ForkFault::Cover(place));
-    lacks_ranges(&rt, fork_with(alloc, FILE + 74, b"\x00\x0C\x00\x01"), ForkFault::Blocks(place));
-    lacks_ranges(&rt, fork_with(alloc, FILE + 74, b"\x00\x0A\x00\x01"), ForkFault::There(place));
+    lacks_ranges(
+        &rt,
+        fork_with(alloc, FILE + 26, b"\x00\x00\x04\x01"),
+        ForkFault::Cover(place),
+    );
+    lacks_ranges(
+        &rt,
+        fork_with(alloc, FILE + 74, b"\x00\x0C\x00\x01"),
+        ForkFault::Blocks(place),
+    );
+    lacks_ranges(
+        &rt,
+        fork_with(alloc, FILE + 74, b"\x00\x0A\x00\x01"),
+        ForkFault::There(place),
+    );
 }

@@ -1,10 +1,10 @@
 -- A path, from a folder up to the root.
-use Rattle.std.proofs.Common.{◌≡◌, ℕ, zero, suc, ◌+◌, ◌-◌, ◌==◌, ◌&&◌, Bool, true, false, cond, List, [], ◌∷◌, ◌++◌, reverse, Option, None, Some, refl, sym, ap, ◌∙◌, arith}
+use Rattle.std.proofs.Common.{◌≡◌, ℕ, suc, ◌==◌, false, List, [], ◌∷◌, ◌++◌, reverse, Option, None, Some, refl, sym, ap, ◌∙◌}
 use Rattle.std.specs.Prelude.{find}
 use Rattle.std.proofs.lemmas.List.{append_assoc, append-nil, reverse-append}
 use Rattle.hfs_volume.specs.declared.entry.Entry.{Entry}
 use Rattle.hfs_volume.specs.declared.name.Name.{Name}
-use Rattle.volume_names.specs.Paths.{is_folder_with, with_name, path_by, path_within}
+use Rattle.volume_names.specs.Paths.{is_folder_with, with_name, path_within}
 
 -- a path and more names after it
 abbrev pub before_all : List Name → Option (List Name) → Option (List Name)

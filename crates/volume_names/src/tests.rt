@@ -38,7 +38,10 @@ fn records() -> [Entry; 9] {
 fn lists_things_with_paths(rt: HostRuntime) -> Result<(), Fail> {
     let things = list_things(rt.alloc(), &records())?;
     assert_eq!(rt; things.len(), 4);
-    assert_eq!(rt; things[0].path.as_slice(), [Name::from_bytes(b"Game")].as_slice());
+    assert_eq!(rt;
+        things[0].path.as_slice(),
+        [Name::from_bytes(b"Game")].as_slice()
+    );
     assert_eq!(rt; things[1].entry.id(), 17);
     assert_eq!(rt; things[3].path.len(), 3);
     assert_eq!(rt; things[3].path[1], Name::from_bytes(b"Sea\xCA"));

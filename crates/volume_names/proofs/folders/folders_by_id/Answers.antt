@@ -15,7 +15,7 @@ loop-entry-preserved c =
           (rw (w.id.ensures, ← w.id-then-not-contains_key.ensures) at (sym w.contains_key.ensures ∙ w.if-not-contains_key.true))
           w.in_ok-insert.ensures.updates.1 w.in_ok-insert.ensures.updates.2)
       | else-is_folder w ↦ rw w.folders-is (elim w.else-is_folder.branch [
-          | else-is_folder-via-then-is_folder+else-not-contains_key x ↦ is_there c.loop-entry.folders entries i _ at has x.id.result x.id.ensures (sym x.contains_key.ensures ∙ x.if-not-contains_key.false)
-          | else-is_folder-via-else-is_folder x ↦ no_folder c.loop-entry.folders entries i _ at has (sym c.is_folder.ensures ∙ x.if-is_folder.false)
-        ])
+        | else-is_folder-via-then-is_folder+else-not-contains_key x ↦ is_there c.loop-entry.folders entries i _ at has x.id.result x.id.ensures (sym x.contains_key.ensures ∙ x.if-not-contains_key.false)
+        | else-is_folder-via-else-is_folder x ↦ no_folder c.loop-entry.folders entries i _ at has (sym c.is_folder.ensures ∙ x.if-is_folder.false)
+      ])
     ]

@@ -1,4 +1,4 @@
-use Rattle.std.proofs.Common.{◌≡◌, ◌-◌, ◌++◌, List, reverse}
+use Rattle.std.proofs.Common.{◌≡◌, ◌-◌, List, reverse}
 use Rattle.hfs_volume.specs.declared.entry.Entry.{Entry}
 use Rattle.volume_names.specs.Paths.{HasFolders, path_within}
 use Rattle.volume_names.proofs.Upwards.{before_all}
