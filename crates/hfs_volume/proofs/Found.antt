@@ -7,7 +7,7 @@ use Rattle.hfs_volume.specs.declared.entry.Which.{Which}
 use Rattle.hfs_volume.specs.Entries.{size_of}
 use Rattle.hfs_volume.specs.Overflow.{block_count}
 use Rattle.hfs_volume.specs.Volume.{VolumeRead, layout_of, blocks_for}
-use Rattle.hfs_volume.specs.Forks.{extents_of, cut_to, is_in_volume, ranges_in, is_there, fork_fault, HasFork}
+use Rattle.hfs_volume.specs.Forks.{extents_of, cut_to, is_in_volume, ranges_in, is_there, HasFork}
 use Rattle.hfs_volume.proofs.ForkRanges.{total_is, bytes_are, are_within}
 
 module _ (volume : VolumeRead) (file : Entry) (which : Which) where

@@ -1,10 +1,10 @@
 -- The extents of a fork, one record after another.
-use Rattle.std.proofs.Common.{◌≡◌, ℕ, zero, suc, ◌+◌, ◌-◌, ◌<◌, ◌≤◌, List, [], ◌∷◌, ◌++◌, length, refl, ◌∙◌, arith}
+use Rattle.std.proofs.Common.{◌≡◌, ℕ, zero, suc, ◌<◌, ◌≤◌, List, [], ◌∷◌, ◌++◌, length, refl, arith}
 use Rattle.std.specs.Prelude.{find}
 use Rattle.std.proofs.lemmas.Bool.{le-leb, lt-leb}
 use Rattle.hfs_tree.specs.declared.extent.Extent.{Extent}
 use Rattle.hfs_volume.specs.declared.overflow.Overflow.{Overflow}
-use Rattle.hfs_volume.specs.Overflow.{block_count, comes_after, next_extents, with_more, fork_extents}
+use Rattle.hfs_volume.specs.Overflow.{block_count, comes_after, next_extents, fork_extents}
 
 module _ (rows : List Overflow) (id fork needed : ℕ) (so_far : List Extent) where
   -- there are enough

@@ -1,6 +1,5 @@
 -- What a disk is read as.
 use Rattle.std.specs.Prelude.{◌≡◌, ℕ, List, length, ⊤, Result, Ok, Err, MatchResult}
-use Rattle.fork_disk.specs.Disk.{Rose}
 use Rattle.hfs_tree.specs.Reads.{cause_of}
 use Rattle.hfs_volume.specs.declared.fault.OpenFault.{OpenFault}
 use Rattle.hfs_volume.specs.declared.fault.OpenFault.TheVariants as open_fault

@@ -1,4 +1,4 @@
-use Rattle.std.proofs.Common.{sym, ◌∙◌, arith}
+use Rattle.std.proofs.Common.{sym, ◌∙◌}
 use Rattle.std.proofs.lemmas.Bool.{ne_eqb}
 use Rattle.hfs_volume.proofs.ForkRanges.{cut_is, cut_ends, cut_more}
 use Rattle.hfs_volume.proofs.ranges.cut_to.Goals as goal

@@ -1,4 +1,4 @@
-use Rattle.std.proofs.Common.{sym, ◌∙◌, arith}
+use Rattle.std.proofs.Common.{sym, ◌∙◌}
 use Rattle.std.proofs.lemmas.Bool.{ne_eqb}
 use Rattle.hfs_volume.proofs.ForkRanges.{ranges_are, ranges_end, ranges_more}
 use Rattle.hfs_volume.proofs.ranges.ranges_in.Goals as goal

@@ -1,4 +1,4 @@
-use Rattle.std.proofs.Common.{◌≡◌, ◌≤◌, ◌<◌, ◌*◌, ◌^◌, List, refl, ap, sym, ◌∙◌, arith}
+use Rattle.std.proofs.Common.{◌≡◌, ◌≤◌, ◌*◌, List, refl, ap, sym, ◌∙◌, arith}
 use Rattle.hfs_tree.specs.declared.extent.Extent.{Extent}
 use Rattle.hfs_volume.specs.Entries.{size_of}
 use Rattle.hfs_volume.specs.Overflow.{block_count}
