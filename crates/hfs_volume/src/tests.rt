@@ -1,6 +1,8 @@
 //! A volume of 14 blocks by hand: boot blocks, master directory block, bitmap, eight allocation blocks, the copy, and one
 //! that isn't used.
 
+ghost use Rattle.std.specs.Prelude.{◌<◌};
+
 use crate::entry::Which;
 use crate::fault::{ForkFault, OpenFault, VolumeFault};
 use crate::name::Name;
@@ -38,7 +40,9 @@ fn put(bytes: &mut Vec<u8>, at: usize, new: &[u8]) {
 
 /// A master directory block, the same in its copy: twelve allocation blocks of 512 bytes from block 4 on, of which the
 /// last aren't there; the extents file has blocks 2 and 4, the catalog blocks 0 and 1.
-fn put_mdb(bytes: &mut Vec<u8>, at: usize) {
+fn put_mdb(bytes: &mut Vec<u8>, at: usize)
+    requires { at < 65536 }
+{
     put(bytes, at, b"BD");
     put(bytes, at + 18, b"\x00\x0C\x00\x00\x02\x00");
     put(bytes, at + 28, b"\x00\x04");
