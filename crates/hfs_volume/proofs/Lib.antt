@@ -1,0 +1,4 @@
+pub mod Entered
+pub mod ForkRanges
+pub mod Found
+pub mod MoreExtents

@@ -1,0 +1,18 @@
+use Rattle.std.proofs.Common.{sym, ◌∙◌}
+use Rattle.std.proofs.lemmas.Bool.{ne_eqb}
+use Rattle.hfs_volume.proofs.ForkRanges.{cut_is, cut_ends, cut_more}
+use Rattle.hfs_volume.proofs.ranges.cut_to.Goals as goal
+
+pub returns-then-left-eq0 : goal.returns-then-left-eq0
+returns-then-left-eq0 c =
+    sym (cut_is c.loop-extent.cut.items c.args.extents.now c.loop-extent.extent-index c.loop-extent.left c.if-left-eq0.true) ∙ c.loop-extent.invariant
+
+pub loop-extent-preserved : goal.loop-extent-preserved
+loop-extent-preserved c =
+    rw c.in_ok-push.ensures.items
+    (sym (cut_more c.loop-extent.cut.items c.args.extents.now c.loop-extent.extent-index c.loop-extent.left c.min-count.result
+    c.loop-extent-test.true (ne_eqb c.loop-extent.left 0 c.if-left-eq0.false) c.min-count.ensures) ∙ c.loop-extent.invariant)
+
+pub returns : goal.returns
+returns c =
+    sym (cut_ends c.loop-extent.cut.items c.args.extents.now c.loop-extent.extent-index c.loop-extent.left c.loop-extent-test.false) ∙ c.loop-extent.invariant
