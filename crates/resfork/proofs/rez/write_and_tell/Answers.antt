@@ -1,0 +1,5 @@
+use Rattle.std.proofs.Common.{None}
+use Rattle.resfork.proofs.rez.write_and_tell.Goals as goal
+
+pub returns-clause-dry : goal.returns-clause-dry
+returns-clause-dry c = λ dry before. c.say.ensures.reads None (c.in_ok-write_output.ensures.dry dry before)
