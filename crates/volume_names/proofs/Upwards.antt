@@ -1,7 +1,7 @@
 -- A path, from a folder up to the root.
 use Rattle.std.proofs.Common.{◌≡◌, ℕ, suc, ◌==◌, false, List, [], ◌∷◌, ◌++◌, reverse, Option, None, Some, refl, sym, ap, ◌∙◌}
 use Rattle.std.specs.Prelude.{find}
-use Rattle.std.proofs.lemmas.List.{append_assoc, append-nil, reverse-append}
+use Rattle.std.proofs.lemmas.List.{append_assoc, reverse-append}
 use Rattle.hfs_volume.specs.declared.entry.Entry.{Entry}
 use Rattle.hfs_volume.specs.declared.name.Name.{Name}
 use Rattle.volume_names.specs.Paths.{is_folder_with, with_name, path_within}
@@ -10,11 +10,6 @@ use Rattle.volume_names.specs.Paths.{is_folder_with, with_name, path_within}
 abbrev pub before_all : List Name → Option (List Name) → Option (List Name)
 before_all names None = None
 before_all names (Some path) = Some (path ++ names)
-
--- no names are added
-pub before_none : (path : Option (List Name)) → before_all [] path ≡ path
-before_none None = refl
-before_none (Some path) = ap (λ (xs : List Name). Some xs) (append-nil path)
 
 -- one more name before the last ones
 one_up : (names : List Name) (name : Name) (path : Option (List Name)) → before_all (reverse names) (with_name name path) ≡ before_all (reverse (names ++ name ∷ [])) path
