@@ -164,7 +164,8 @@ impl<'a, W: FolderWorld> FileReplacer<'a, W> {
         ensures some { is_some result ≡ is_some self.entry.beside }
         ensures made { IsMadeLeft result }
     {
-        match self.beside {
+        let FileReplacer { beside, .. } = self;
+        match beside {
             Some(beside) => Some(beside.into_path()),
             None => None,
         }

@@ -1,5 +1,5 @@
 -- Which folders are written to, by what the system says of them.
-use Rattle.std.specs.Prelude.{◌≡◌, ◌⊎◌, ℕ, ◌==◌, ◌&&◌, not, Bool, true, false, List, [], ◌∷◌, ◌++◌, codes, Option, None, Some, Result, Ok, Err, bit_and}
+use Rattle.std.specs.Prelude.{◌≡◌, ◌⊎◌, ℕ, ℤ, ◌==◌, ◌&&◌, not, Bool, true, false, List, [], ◌∷◌, ◌++◌, codes, Option, None, Some, Result, Ok, Err, bit_and}
 use Rattle.std.specs.Fd.{file_raw_fd}
 use Rattle.std.specs.Fmt.{signed_decimal}
 use Rattle.std.specs.declared.fs.File.{File}
@@ -44,5 +44,8 @@ abbrev pub IsBegun : List ℕ → ℕ → File → Log → Type 0
 IsBegun path owner folder new = (mid : Log) × (OpensMade path owner folder (User (Some owner) ∷ []) mid ⊎ Opens path folder (User (Some owner) ∷ []) mid) × IsChecked owner folder mid new
 
 -- the path of something in an open folder, by way of its descriptor
+abbrev pub path_by : ℤ → List ℕ → List ℕ
+path_by number name = codes "/proc/self/fd/" ++ (signed_decimal number ++ (codes "/" ++ name))
+
 abbrev pub path_in : File → List ℕ → List ℕ
-path_in folder name = codes "/proc/self/fd/" ++ signed_decimal (file_raw_fd folder) ++ codes "/" ++ name
+path_in folder name = path_by (file_raw_fd folder) name

@@ -2,7 +2,7 @@
 
 ghost use Rattle.std.specs.Prelude.{◌≡◌, ◌⊎◌, [], ◌∷◌, true, Some, is_ok, IfOk, OnOk, option_map, string_bytes};
 ghost use Rattle.host_paths.specs.declared.host.HostCall.TheVariants.{Empty};
-ghost use Rattle.new_folder.specs.Checked.{IsChecked, IsOwned, Opens, OpensMade, emptiness, is_made, is_shared, path_in};
+ghost use Rattle.new_folder.specs.Checked.{IsChecked, IsOwned, Opens, OpensMade, emptiness, is_made, is_shared, path_by, path_in};
 ghost use Rattle.new_folder.specs.NewFolder.{Makes, event, is_single, path_below, with_file};
 
 use crate::calls::{FolderCall, FolderCalls, FolderNoted, note, note_path, note_written};
@@ -17,6 +17,12 @@ use std::{fs, io};
 
 /// The bits of a mode that let others than the owner write.
 const OTHERS_WRITE: u32 = 0o022;
+
+/// Where Linux has the files that this process has open, by their numbers.
+const DESCRIPTORS: &str = "/proc/self/fd/";
+
+/// What is between a folder and a name in it.
+const SLASH: &str = "/";
 
 /// Why a folder isn't written to.
 #[derive(Debug, Drop)]
@@ -101,12 +107,18 @@ fn is_shared(found: &Found, owner: u32) -> bool
     found.user != owner && found.mode & OTHERS_WRITE != 0
 }
 
-/// The path of something in an open folder, by way of its descriptor.
+/// The path of something in an open folder, by the number of its descriptor.
+fn path_by(rt: &HostRuntime, number: i32, name: &str) -> Result<String, AllocError>
+    ensures { IfOk result (λ path. string_bytes path ≡ path_by number name.now) }
+{
+    format!(in rt.alloc(); "{DESCRIPTORS}{number}{SLASH}{name}")
+}
+
+/// The same of the open folder itself.
 fn path_in(rt: &HostRuntime, folder: &File, name: &str) -> Result<String, AllocError>
     ensures { IfOk result (λ path. string_bytes path ≡ path_in folder.now name.now) }
 {
-    let number = folder.as_raw_fd();
-    format!(in rt.alloc(); "/proc/self/fd/{number}/{name}")
+    path_by(rt, folder.as_raw_fd(), name)
 }
 
 /// Whether an open folder has nothing in it, by its path.
