@@ -1,5 +1,6 @@
 //! Two files that were prepared are put one after the other.
 
+ghost use Rattle.std.specs.Prelude.{◌≡◌};
 ghost use Rattle.file_replace.specs.Pair.{CallsOfBoth, CausesOf, IfBothHonest, LeftOfBoth, PutsBoth};
 
 use crate::place::{FolderSync, Replaces};

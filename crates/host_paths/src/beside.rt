@@ -93,11 +93,7 @@ fn given_owner(rt: &HostRuntime, path: &PathBuf, user: u32, log: &mut HostCalls)
 
 /// The users of whom files are removed that were left beside a path: the one of this process, and the owner that root's
 /// new file may have got.
-fn users_at(
-    rt: &HostRuntime,
-    path: &PathBuf,
-    log: &mut HostCalls,
-) -> Option<(u32, Option<u32>)>
+fn users_at(rt: &HostRuntime, path: &PathBuf, log: &mut HostCalls) -> Option<(u32, Option<u32>)>
     ensures { AreUsers (path_buf_bytes path.now) result log.old.events log.new.events }
 {
     match this_user(rt, log) {

@@ -345,12 +345,7 @@ pub(crate) fn remove(rt: &HostRuntime, path: &str, log: &mut HostCalls) -> io::R
 }
 
 /// Writes all these bytes to an open file, where one may be so long.
-pub fn write_whole(
-    file: &File,
-    bytes: &[u8],
-    longest: u64,
-    log: &mut HostCalls,
-) -> io::Result<()>
+pub fn write_whole(file: &File, bytes: &[u8], longest: u64, log: &mut HostCalls) -> io::Result<()>
     ensures { log.new.events ≡ Write file.now bytes.now (is_ok result) ∷ log.old.events }
 {
     let mut writer = file;

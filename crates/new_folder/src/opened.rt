@@ -122,12 +122,7 @@ fn path_in(rt: &HostRuntime, folder: &File, name: &str) -> Result<String, AllocE
 }
 
 /// Whether an open folder has nothing in it, by its path.
-fn is_empty(
-    rt: &HostRuntime,
-    folder: &File,
-    path: &str,
-    log: &mut HostCalls,
-) -> io::Result<bool>
+fn is_empty(rt: &HostRuntime, folder: &File, path: &str, log: &mut HostCalls) -> io::Result<bool>
     requires { path.now ≡ path_in folder.now [] }
     ensures { log.new.events ≡ Empty folder.now (emptiness result) ∷ log.old.events }
 {
@@ -176,12 +171,7 @@ pub(crate) fn check(
 }
 
 /// Writes these bytes to a file that was made, and notes whether it did.
-fn write_made(
-    file: &File,
-    bytes: &[u8],
-    longest: u64,
-    log: &mut FolderCalls,
-) -> io::Result<()>
+fn write_made(file: &File, bytes: &[u8], longest: u64, log: &mut FolderCalls) -> io::Result<()>
     ensures { log.new.events ≡ event FolderCall.Write (is_ok result) bytes.now ∷ log.old.events }
 {
     let mut calls = HostCalls::new();
