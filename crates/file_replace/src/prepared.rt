@@ -331,7 +331,8 @@ fn put_files<F: FolderWorld, G: FolderWorld>(
 {
     let NewFile { place: mut one, .. } = first;
     let NewFile {
-        place: mut other, ..
+        place: mut other,
+        ..
     } = second;
     let done = put_both_places(&mut one, &mut other);
     one.note_put(log);
