@@ -1,14 +1,17 @@
 -- What the program reads and writes, by what is asked of it.
-use Rattle.std.specs.Prelude.{Bool, true, false, is_none, ℕ, List}
+use Rattle.std.specs.Prelude.{◌≡◌, ◌≢◌, Bool, true, false, is_none, is_some, IfSome, ℕ, List, codes}
 use Rattle.fork_words.specs.declared.asked.Asked.{Asked}
 use Rattle.fork_words.specs.declared.asked.Asked.TheVariants as asked
 use Rattle.fork_words.specs.declared.asked.Salvage.{Salvage}
 use Rattle.fork_words.specs.declared.asked.Salvage.TheVariants as salvage
+use Rattle.fork_words.specs.declared.work.Conversion.{Conversion}
 use Rattle.fork_words.specs.declared.work.Place.{Place}
 use Rattle.fork_words.specs.declared.work.Place.TheVariants.{New, Into}
+use Rattle.fork_words.specs.declared.work.Target.{Target}
 use Rattle.fork_words.specs.declared.work.Work.{Work}
 use Rattle.fork_words.specs.declared.work.Work.TheVariants as work
 use Rattle.resfork.specs.Acts.{Log, ReadsBoth, ReadsNothing, ReadsOnly, ReadsThese, WritesNothing}
+use Rattle.resfork.specs.Problems.{written_file}
 
 -- nothing is written in this place
 abbrev pub is_dry_place : Place → Bool
@@ -59,3 +62,37 @@ ReadsAsked (asked.View viewing) = ReadsOnly viewing.file.now
 ReadsAsked (asked.Unpack unpacking file) = ReadsOnly file.now
 ReadsAsked (asked.Change change) = ReadsWork change
 ReadsAsked (asked.Tell text) = ReadsNothing
+
+-- a file is changed: it isn't only said what would be done, and the changed one doesn't go to the standard output
+abbrev pub IsForFile : Target → Type 0
+IsForFile target = (target.is_dry ≡ false) × IfSome target.output (λ path. path.now ≢ codes "-")
+
+-- the same, and another one is written than is read
+abbrev pub IsForOther : Target → Type 0
+IsForOther target = IsForFile target × (is_some target.output ≡ true)
+
+-- the same of a place where resources go
+abbrev pub IsForPlace : Place → Type 0
+IsForPlace (New target is_forced) = IsForOther target
+IsForPlace (Into target on_collision) = IsForFile target
+
+-- and of a file in another container, and its data fork
+abbrev pub IsForNew : Conversion → Type 0
+IsForNew asked = (asked.target.is_dry ≡ false) × (written_file asked.target ≢ codes "-") × IfSome asked.data (λ path. path.now ≢ codes "-")
+
+-- a command changes files
+abbrev pub ChangesFiles : Work → Type 0
+ChangesFiles (work.Put asked) = IsForFile asked.target
+ChangesFiles (work.Remove asked) = IsForFile asked.target
+ChangesFiles (work.Set asked) = IsForFile asked.target
+ChangesFiles (work.Copy asked) = IsForFile asked.target
+ChangesFiles (work.Compare asked) = ⊥
+ChangesFiles (work.Derez asked) = ⊥
+ChangesFiles (work.Rez asked) = IsForPlace asked.place
+ChangesFiles (work.Pack asked) = IsForPlace asked.place
+ChangesFiles (work.Convert asked) = IsForNew asked
+
+-- the same of whatever is asked for
+abbrev pub ChangesAsked : Asked → Type 0
+ChangesAsked (asked.Change change) = ChangesFiles change
+ChangesAsked other = ⊥

@@ -3,6 +3,7 @@
 ghost use Rattle.std.specs.Prelude.{◌≡◌, ◌∷◌, Some, is_ok};
 ghost use Rattle.host_paths.specs.Asked.{answer_of};
 ghost use Rattle.resfork.specs.Acts.{Prints, ReadsNothing, ReadsOnly, bytes_read};
+ghost use Rattle.resfork.specs.Saving.{ShowsSaved};
 ghost use Rattle.resfork.specs.declared.acts.Act.TheVariants as act;
 
 use crate::host::Host;
@@ -120,6 +121,7 @@ pub fn note_unpacked(acts: &mut Acts, calls: &FolderCalls)
 pub fn look_at(host: &Host<'_>, path: &str, acts: &mut Acts) -> io::Result<Option<Found>>
     ensures asks { acts.new.events ≡ act.Asked path.now (answer_of result) ∷ acts.old.events }
     ensures quiet { ReadsOnly path.now acts.old.events acts.new.events }
+    ensures seen { ShowsSaved acts.old.events acts.new.events }
 {
     let found = found_over(host.rt, path, &mut HostCalls::new());
     note_asked(acts, path, &found);

@@ -1,8 +1,12 @@
 //! Files changed: read whole, changed, and written in their own place or in another.
 
-ghost use Rattle.std.specs.Prelude.{◌≡◌, IfErr, IfOk, IfSome, Ok, true};
+ghost use Rattle.std.specs.Prelude.{◌≡◌, ◌≢◌, ℕ, List, [], IfErr, IfOk, IfSome, Ok, codes, true};
+ghost use Rattle.fork_edit.specs.Changes.{Comes};
 ghost use Rattle.resfork.specs.Acts.{ReadsNothing, WritesNothing};
+ghost use Rattle.resfork.specs.Changing.{EndsBy};
 ghost use Rattle.resfork.specs.Problems.{IsIdle, IsNotSaved, written_file};
+ghost use Rattle.resfork.specs.Running.{IsForFile, IsForOther};
+ghost use Rattle.resfork.specs.Saving.{JustRead, JustSaved, SavedAndSaid, ShowsSaved};
 
 use crate::acts::Acts;
 use crate::asked_change::Target;
@@ -26,6 +30,8 @@ pub fn change(
 ) -> Result<u8, Problem>
     ensures done { IfOk result (λ status. status ≡ DONE) }
     ensures dry { target.now.is_dry ≡ true → WritesNothing acts.old.events acts.new.events }
+    ensures saved { IsForFile target.now → IfOk result (λ _. (old : List ℕ) × EndsBy old from.now edit.entry acts.new.events) }
+    ensures seen { IsForFile target.now → ShowsSaved acts.old.events acts.new.events }
 {
     if target.is_dry || target.output.is_some() {
         change_other(host, target, from, edit, acts)
@@ -44,6 +50,8 @@ fn change_other(
 ) -> Result<u8, Problem>
     ensures done { IfOk result (λ status. status ≡ DONE) }
     ensures dry { target.now.is_dry ≡ true → WritesNothing acts.old.events acts.new.events }
+    ensures saved { IsForOther target.now → IfOk result (λ _. (old : List ℕ) × EndsBy old from.now edit.entry acts.new.events) }
+    ensures seen { IsForOther target.now → ShowsSaved acts.old.events acts.new.events }
 {
     let old = read(host, target.file, acts)?;
     change_into(host, target, &old, from, edit, acts)
@@ -59,6 +67,8 @@ pub fn create(
 ) -> Result<u8, Problem>
     ensures done { IfOk result (λ status. status ≡ DONE) }
     ensures dry { target.now.is_dry ≡ true → WritesNothing acts.old.events acts.new.events }
+    ensures saved { IsForFile target.now → target.now.file.now ≢ codes "-" → IfOk result (λ _. EndsBy [] from.now edit.entry acts.new.events) }
+    ensures seen { IsForFile target.now → target.now.file.now ≢ codes "-" → ShowsSaved acts.old.events acts.new.events }
 {
     let target = Target {
         output: target.output.or(Some(target.file)),
@@ -76,6 +86,8 @@ fn change_in_place(
     acts: &mut Acts,
 ) -> Result<u8, Problem>
     ensures done { IfOk result (λ status. status ≡ DONE) }
+    ensures saved { IfOk result (λ _. (old : List ℕ) × EndsBy old from.now edit.entry acts.new.events) }
+    ensures seen { ShowsSaved acts.old.events acts.new.events }
 {
     let held = open_held(host, target.file, acts)?;
     change_held(host, target, held, from, edit, acts)
@@ -91,6 +103,8 @@ fn change_held(
     acts: &mut Acts,
 ) -> Result<u8, Problem>
     ensures done { IfOk result (λ status. status ≡ DONE) }
+    ensures saved { IfOk result (λ _. (old : List ℕ) × EndsBy old from.now edit.entry acts.new.events) }
+    ensures seen { ShowsSaved acts.old.events acts.new.events }
 {
     let old = read_held(host, held.file(), acts)?;
     renew_by(host, target, held, &old, (from, edit), acts)
@@ -106,6 +120,8 @@ fn renew_by(
     acts: &mut Acts,
 ) -> Result<u8, Problem>
     ensures done { IfOk result (λ status. status ≡ DONE) }
+    ensures saved { JustRead old.now acts.old.events → IfOk result (λ _. EndsBy old.now change.entry.0.now change.entry.1 acts.new.events) }
+    ensures seen { JustRead old.now acts.old.events → ShowsSaved acts.old.events acts.new.events }
 {
     let (from, edit) = change;
     match changed_of(host, old, from, edit)? {
@@ -124,6 +140,8 @@ fn replace(
     acts: &mut Acts,
 ) -> Result<u8, Problem>
     ensures done { IfOk result (λ status. status ≡ DONE) }
+    ensures saved { JustRead old.now acts.old.events → IfOk result (λ _. SavedAndSaid changed.now.file.items acts.new.events) }
+    ensures seen { JustRead old.now acts.old.events → ShowsSaved acts.old.events acts.new.events }
 {
     let renewal = Renewal {
         old,
@@ -140,7 +158,9 @@ fn changed_of(
     old: &[u8],
     from: &[Row<'_>],
     edit: Edit<'_>,
-) -> Result<Option<NewFile>, Problem> {
+) -> Result<Option<NewFile>, Problem>
+    ensures { IfOk result (λ changed. Comes old.now from.now edit.entry (Ok changed)) }
+{
     let alloc = host.alloc();
     match changed(alloc, old, from, edit) {
         Ok(changed) => Ok(changed),
@@ -159,6 +179,8 @@ fn change_into(
 ) -> Result<u8, Problem>
     ensures done { IfOk result (λ status. status ≡ DONE) }
     ensures dry { target.now.is_dry ≡ true → WritesNothing acts.old.events acts.new.events }
+    ensures saved { IsForOther target.now → IfOk result (λ _. EndsBy old.now from.now edit.entry acts.new.events) }
+    ensures seen { IsForOther target.now → ShowsSaved acts.old.events acts.new.events }
 {
     match changed_of(host, old, from, edit)? {
         Some(changed) => write_changed(host, target, &changed, acts),
@@ -178,6 +200,8 @@ fn write_changed(
 ) -> Result<u8, Problem>
     ensures done { IfOk result (λ status. status ≡ DONE) }
     ensures dry { target.now.is_dry ≡ true → WritesNothing acts.old.events acts.new.events }
+    ensures saved { IsForOther target.now → IfOk result (λ _. SavedAndSaid changed.now.file.items acts.new.events) }
+    ensures seen { IsForOther target.now → ShowsSaved acts.old.events acts.new.events }
 {
     write_output(host, target, &changed.file, acts)?;
     say(host, target, &changed.told, acts)
@@ -200,6 +224,8 @@ pub fn write_output(
     ensures idle { IsIdle target.now → (result ≡ Ok tt) × (acts.new.events ≡ acts.old.events) }
     ensures dry { target.now.is_dry ≡ true → WritesNothing acts.old.events acts.new.events }
     ensures cause { IfErr result (λ why. IfSome target.now.output (λ path. IsNotSaved path.now why)) }
+    ensures saved { IsForOther target.now → IfOk result (λ _. JustSaved bytes.now acts.new.events) }
+    ensures seen { IsForOther target.now → ShowsSaved acts.old.events acts.new.events }
 {
     match target.output {
         Some(output) if !target.is_dry => save_to(host, output, bytes, acts),
@@ -217,6 +243,8 @@ pub fn say(
     ensures done { IfOk result (λ status. status ≡ DONE) }
     ensures quiet { target.now.is_quiet ≡ true → (result ≡ Ok DONE) × (acts.new.events ≡ acts.old.events) }
     ensures reads { ReadsNothing acts.old.events acts.new.events }
+    ensures saved { (bytes : List ℕ) → JustSaved bytes acts.old.events → IfOk result (λ _. SavedAndSaid bytes acts.new.events) }
+    ensures seen { (bytes : List ℕ) → JustSaved bytes acts.old.events → ShowsSaved acts.old.events acts.new.events }
 {
     if !target.is_quiet && (target.is_dry || target.output != Some(OUTPUT)) {
         write_text(host, text, acts)?;
@@ -232,6 +260,8 @@ fn say_after(
     acts: &mut Acts,
 ) -> Result<u8, Problem>
     ensures done { IfOk result (λ status. status ≡ DONE) }
+    ensures saved { (bytes : List ℕ) → JustSaved bytes acts.old.events → IfOk result (λ _. SavedAndSaid bytes acts.new.events) }
+    ensures seen { (bytes : List ℕ) → JustSaved bytes acts.old.events → ShowsSaved acts.old.events acts.new.events }
 {
     match say(host, target, text, acts) {
         Ok(status) => Ok(status),

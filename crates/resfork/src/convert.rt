@@ -1,8 +1,10 @@
 //! A file is written in another container.
 
-ghost use Rattle.std.specs.Prelude.{◌≡◌, Err, IfOk, Some, option_map, true};
+ghost use Rattle.std.specs.Prelude.{◌≡◌, ℕ, List, Err, IfOk, Some, option_map, true};
 ghost use Rattle.resfork.specs.Acts.{ReadsNothing, WritesNothing};
 ghost use Rattle.resfork.specs.Problems.{written_file};
+ghost use Rattle.resfork.specs.Running.{IsForNew};
+ghost use Rattle.resfork.specs.Saving.{EndsSaved, IsForPath, IsWhole, JustSaved, SavedAndSaid, ShowsSaved, SomeSaved};
 
 use crate::acts::{Acts, note_identified};
 use crate::asked_change::Conversion;
@@ -108,6 +110,7 @@ fn data_for(
     acts: &mut Acts,
 ) -> Result<Vec<u8>, Problem>
     ensures quiet { WritesNothing acts.old.events acts.new.events }
+    ensures seen { ShowsSaved acts.old.events acts.new.events }
 {
     match (asked.data, holds_data(asked.kind), is_inside(bytes)) {
         (Some(path), true, false) if file.data_fork.is_empty() => read_other(host, path, acts),
@@ -121,6 +124,7 @@ fn data_for(
 /// a one can't be opened either.
 fn identity_of(host: &Host<'_>, path: &str, acts: &mut Acts) -> Option<Identity>
     ensures quiet { WritesNothing acts.old.events acts.new.events }
+    ensures seen { ShowsSaved acts.old.events acts.new.events }
 {
     if path == OUTPUT {
         return None;
@@ -143,6 +147,7 @@ fn order_for(
 ) -> Result<Order, Problem>
     ensures one_file { path.now ≡ written_file asked.now.target → result ≡ Err Problem.OneFile }
     ensures quiet { WritesNothing acts.old.events acts.new.events }
+    ensures seen { ShowsSaved acts.old.events acts.new.events }
 {
     let output = written_file(&asked.target);
     if path == output {
@@ -161,6 +166,7 @@ fn order_for(
 fn order_if(host: &Host<'_>, asked: &Conversion<'_>, acts: &mut Acts) -> Result<Order, Problem>
     ensures one_file { option_map (λ path. path.now) asked.now.data ≡ Some (written_file asked.now.target) → result ≡ Err Problem.OneFile }
     ensures quiet { WritesNothing acts.old.events acts.new.events }
+    ensures seen { ShowsSaved acts.old.events acts.new.events }
 {
     match asked.data {
         Some(path) => order_for(host, asked, path, acts),
@@ -177,7 +183,10 @@ fn write_both<'a>(
     new: &'a [u8],
     data: &'a [u8],
     acts: &mut Acts,
-) -> Result<(), Problem> {
+) -> Result<(), Problem>
+    ensures saved { IsForNew asked.now → IfOk result (λ _. SomeSaved acts.new.events) }
+    ensures seen { IsForNew asked.now → ShowsSaved acts.old.events acts.new.events }
+{
     let output = written_file(&asked.target);
     match asked.data {
         Some(path) if !holds_data(asked.kind) => {
@@ -196,7 +205,10 @@ fn put_in(
     output: Ready<'_>,
     data: Ready<'_>,
     acts: &mut Acts,
-) -> Result<(), Problem> {
+) -> Result<(), Problem>
+    ensures saved { IsForPath output.entry → IsForPath data.entry → IsWhole output.entry → IsWhole data.entry → IfOk result (λ _. SomeSaved acts.new.events) }
+    ensures seen { IsForPath output.entry → IsForPath data.entry → ShowsSaved acts.old.events acts.new.events }
+{
     match order {
         Order::OutputFirst => put_two(host, output, data, acts),
         Order::DataFirst => put_two(host, data, output, acts),
@@ -213,6 +225,8 @@ fn write_converted(
     acts: &mut Acts,
 ) -> Result<(), Problem>
     ensures dry { asked.now.target.is_dry ≡ true → WritesNothing acts.old.events acts.new.events }
+    ensures saved { IsForNew asked.now → IfOk result (λ _. SomeSaved acts.new.events) }
+    ensures seen { IsForNew asked.now → ShowsSaved acts.old.events acts.new.events }
 {
     if asked.target.is_dry {
         return Ok(());
@@ -243,6 +257,8 @@ pub fn convert(host: &Host<'_>, asked: &Conversion<'_>, acts: &mut Acts) -> Resu
     ensures done { IfOk result (λ status. status ≡ DONE) }
     ensures one_file { option_map (λ path. path.now) asked.now.data ≡ Some (written_file asked.now.target) → result ≡ Err Problem.OneFile }
     ensures dry { asked.now.target.is_dry ≡ true → WritesNothing acts.old.events acts.new.events }
+    ensures saved { IsForNew asked.now → IfOk result (λ _. EndsSaved acts.new.events) }
+    ensures seen { IsForNew asked.now → ShowsSaved acts.old.events acts.new.events }
 {
     let order = order_if(host, asked, acts)?;
     convert_in(host, asked, order, acts)
@@ -257,6 +273,8 @@ fn convert_in(
 ) -> Result<u8, Problem>
     ensures done { IfOk result (λ status. status ≡ DONE) }
     ensures dry { asked.now.target.is_dry ≡ true → WritesNothing acts.old.events acts.new.events }
+    ensures saved { IsForNew asked.now → IfOk result (λ _. EndsSaved acts.new.events) }
+    ensures seen { IsForNew asked.now → ShowsSaved acts.old.events acts.new.events }
 {
     let bytes = read(host, asked.target.file, acts)?;
     convert_bytes(host, asked, order, &bytes, acts)
@@ -272,6 +290,8 @@ fn convert_bytes(
 ) -> Result<u8, Problem>
     ensures done { IfOk result (λ status. status ≡ DONE) }
     ensures dry { asked.now.target.is_dry ≡ true → WritesNothing acts.old.events acts.new.events }
+    ensures saved { IsForNew asked.now → IfOk result (λ _. EndsSaved acts.new.events) }
+    ensures seen { IsForNew asked.now → ShowsSaved acts.old.events acts.new.events }
 {
     check_fork(host, bytes)?;
     match OldFile::open(host.alloc(), bytes) {
@@ -291,6 +311,8 @@ fn convert_file(
 ) -> Result<u8, Problem>
     ensures done { IfOk result (λ status. status ≡ DONE) }
     ensures dry { asked.now.target.is_dry ≡ true → WritesNothing acts.old.events acts.new.events }
+    ensures saved { IsForNew asked.now → IfOk result (λ _. EndsSaved acts.new.events) }
+    ensures seen { IsForNew asked.now → ShowsSaved acts.old.events acts.new.events }
 {
     let data = data_for(host, asked, bytes, &file, acts)?;
     convert_with(host, asked, order, (bytes, file, &data), acts)
@@ -306,6 +328,8 @@ fn convert_with(
 ) -> Result<u8, Problem>
     ensures done { IfOk result (λ status. status ≡ DONE) }
     ensures dry { asked.now.target.is_dry ≡ true → WritesNothing acts.old.events acts.new.events }
+    ensures saved { IsForNew asked.now → IfOk result (λ _. EndsSaved acts.new.events) }
+    ensures seen { IsForNew asked.now → ShowsSaved acts.old.events acts.new.events }
 {
     let (bytes, file, data) = found;
     let name = name_for(host.alloc(), asked, &file)?;
@@ -333,6 +357,8 @@ fn write_and_say(
 ) -> Result<u8, Problem>
     ensures done { IfOk result (λ status. status ≡ DONE) }
     ensures dry { asked.now.target.is_dry ≡ true → WritesNothing acts.old.events acts.new.events }
+    ensures saved { IsForNew asked.now → IfOk result (λ _. EndsSaved acts.new.events) }
+    ensures seen { IsForNew asked.now → ShowsSaved acts.old.events acts.new.events }
 {
     write_converted(host, asked, order, &new.file, data, acts)?;
     say_converted(host, asked, new, acts)
@@ -347,6 +373,8 @@ fn say_converted(
 ) -> Result<u8, Problem>
     ensures done { IfOk result (λ status. status ≡ DONE) }
     ensures quiet { ReadsNothing acts.old.events acts.new.events }
+    ensures saved { (bytes : List ℕ) → JustSaved bytes acts.old.events → IfOk result (λ _. SavedAndSaid bytes acts.new.events) }
+    ensures seen { (bytes : List ℕ) → JustSaved bytes acts.old.events → ShowsSaved acts.old.events acts.new.events }
 {
     let output = FileName(written_file(&asked.target));
     if !new.lost.is_empty() {

@@ -4,6 +4,7 @@ ghost use Rattle.std.specs.Prelude.{◌≡◌, ◌≢◌, ◌∷◌, ◌<◌, �
 ghost use Rattle.std.specs.IoError.{error_kind};
 ghost use Rattle.resfork.specs.Acts.{Reads, ReadsHeld, ReadsOnly, ReadsOther, bytes_read};
 ghost use Rattle.resfork.specs.Reading.{IsNotRead, IsToldUnread};
+ghost use Rattle.resfork.specs.Saving.{JustRead, ShowsSaved};
 ghost use Rattle.resfork.specs.declared.acts.Act.TheVariants as act;
 
 use crate::INPUT;
@@ -103,6 +104,7 @@ pub fn read_whole(host: &Host<'_>, path: &str, acts: &mut Acts) -> Result<Vec<u8
 pub fn read(host: &Host<'_>, file: &str, acts: &mut Acts) -> Result<Vec<u8>, Problem>
     ensures reads { Reads file.now result acts.old.events acts.new.events }
     ensures quiet { ReadsOnly file.now acts.old.events acts.new.events }
+    ensures seen { ShowsSaved acts.old.events acts.new.events }
 {
     match read_whole(host, file, acts) {
         Ok(bytes) => Ok(bytes),
@@ -114,6 +116,7 @@ pub fn read(host: &Host<'_>, file: &str, acts: &mut Acts) -> Result<Vec<u8>, Pro
 pub fn read_other(host: &Host<'_>, path: &str, acts: &mut Acts) -> Result<Vec<u8>, Problem>
     ensures reads { ReadsOther path.now result acts.old.events acts.new.events }
     ensures quiet { ReadsOnly path.now acts.old.events acts.new.events }
+    ensures seen { ShowsSaved acts.old.events acts.new.events }
 {
     match read_whole(host, path, acts) {
         Ok(bytes) => Ok(bytes),
@@ -124,6 +127,8 @@ pub fn read_other(host: &Host<'_>, path: &str, acts: &mut Acts) -> Result<Vec<u8
 /// The bytes of a file that is held.
 pub fn read_held(host: &Host<'_>, file: &File, acts: &mut Acts) -> Result<Vec<u8>, Problem>
     ensures reads { ReadsHeld file.now result acts.old.events acts.new.events }
+    ensures just { IfOk result (λ bytes. JustRead bytes.items acts.new.events) }
+    ensures seen { ShowsSaved acts.old.events acts.new.events }
 {
     let read = read_file(host.alloc(), file, host.limit);
     note_held(acts, file, &read);

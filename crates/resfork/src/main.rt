@@ -5,7 +5,8 @@ ghost use Rattle.std.specs.Prelude.{◌≡◌, ◌≤◌, ℕ, List, None, Resul
 ghost use Rattle.fork_list.specs.Listing.{absent_kind};
 ghost use Rattle.resfork.specs.Acts.{Prints, ReadsNothing, ReadsOnly, ReadsThese};
 ghost use Rattle.resfork.specs.Problems.{IsToldOfKinds};
-ghost use Rattle.resfork.specs.Running.{ReadsAsked, only_lists, only_reads};
+ghost use Rattle.resfork.specs.Running.{ChangesAsked, ReadsAsked, only_lists, only_reads};
+ghost use Rattle.resfork.specs.Saving.{EndsSaved, ShowsSaved};
 ghost use Rattle.resfork.specs.Statuses.{status_after};
 
 mod acts;
@@ -89,6 +90,10 @@ fn run(rt: &HostRuntime) -> u8
 fn done<W: World>(host: &Host<'_>, asked: Asked<'_>, acts: &mut Acts) -> u8
     ensures few { result ≤ CANT_GO_ON }
     ensures quiet { only_reads asked.entry ≡ true → ReadsAsked asked.entry acts.old.events acts.new.events }
+    // A command that changes files ends with status 0 only after the last one was saved, or had nothing to change; and
+    // whatever it printed, it had saved a file just before.
+    ensures saved { ChangesAsked asked.entry → result ≡ DONE → EndsSaved acts.new.events }
+    ensures seen { ChangesAsked asked.entry → ShowsSaved acts.old.events acts.new.events }
 {
     match asked {
         Asked::Show(asked) => show_all::<W>(host, &asked, acts),

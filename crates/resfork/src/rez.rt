@@ -2,7 +2,8 @@
 
 ghost use Rattle.std.specs.Prelude.{◌≡◌, ◌∷◌, IfOk, true};
 ghost use Rattle.resfork.specs.Acts.{ReadsOnly, WritesNothing, bytes_read};
-ghost use Rattle.resfork.specs.Running.{is_dry_place};
+ghost use Rattle.resfork.specs.Running.{IsForFile, IsForOther, IsForPlace, is_dry_place};
+ghost use Rattle.resfork.specs.Saving.{EndsSaved, SavedAndSaid, ShowsSaved};
 ghost use Rattle.resfork.specs.declared.acts.Act.TheVariants as act;
 
 use crate::acts::{Acts, look_at, note_front, print};
@@ -82,6 +83,8 @@ pub fn derez_file(
 pub fn rez_file<'a>(host: &Host<'_>, asked: Rezzing<'a>, acts: &mut Acts) -> Result<u8, Failed<'a>>
     ensures done { IfOk result (λ status. status ≡ DONE) }
     ensures dry { is_dry_place asked.entry.place ≡ true → WritesNothing acts.old.events acts.new.events }
+    ensures saved { IsForPlace asked.entry.place → IfOk result (λ _. EndsSaved acts.new.events) }
+    ensures seen { IsForPlace asked.entry.place → ShowsSaved acts.old.events acts.new.events }
 {
     let alloc = host.alloc();
     let source = asked.text;
@@ -109,6 +112,8 @@ fn deliver<'a>(
 ) -> Result<u8, Failed<'a>>
     ensures done { IfOk result (λ status. status ≡ DONE) }
     ensures dry { is_dry_place place.entry ≡ true → WritesNothing acts.old.events acts.new.events }
+    ensures saved { IsForPlace place.entry → IfOk result (λ _. EndsSaved acts.new.events) }
+    ensures seen { IsForPlace place.entry → ShowsSaved acts.old.events acts.new.events }
 {
     match place {
         Place::New { target, is_forced } => {
@@ -147,6 +152,8 @@ fn put_rows<'a>(
 ) -> Result<u8, Failed<'a>>
     ensures done { IfOk result (λ status. status ≡ DONE) }
     ensures dry { ends.entry.1.is_dry ≡ true → WritesNothing acts.old.events acts.new.events }
+    ensures saved { IsForFile ends.entry.1 → IfOk result (λ _. EndsSaved acts.new.events) }
+    ensures seen { IsForFile ends.entry.1 → ShowsSaved acts.old.events acts.new.events }
 {
     let (source, target) = ends;
     if rows.is_empty() {
@@ -203,6 +210,7 @@ fn check_free(
     acts: &mut Acts,
 ) -> Result<(), Problem>
     ensures quiet { WritesNothing acts.old.events acts.new.events }
+    ensures seen { ShowsSaved acts.old.events acts.new.events }
 {
     if name == OUTPUT {
         return Ok(());
@@ -246,6 +254,7 @@ fn check_unless(
     acts: &mut Acts,
 ) -> Result<(), Problem>
     ensures quiet { WritesNothing acts.old.events acts.new.events }
+    ensures seen { ShowsSaved acts.old.events acts.new.events }
 {
     if is_forced {
         return Ok(());
@@ -290,6 +299,8 @@ fn write_table(
 ) -> Result<u8, Problem>
     ensures done { IfOk result (λ status. status ≡ DONE) }
     ensures dry { target.now.is_dry ≡ true → WritesNothing acts.old.events acts.new.events }
+    ensures saved { IsForOther target.now → IfOk result (λ _. EndsSaved acts.new.events) }
+    ensures seen { IsForOther target.now → ShowsSaved acts.old.events acts.new.events }
 {
     let alloc = host.alloc();
     check_together(alloc, table.rows.as_slice())?;
@@ -310,6 +321,8 @@ fn write_new(
 ) -> Result<u8, Problem>
     ensures done { IfOk result (λ status. status ≡ DONE) }
     ensures dry { target.now.is_dry ≡ true → WritesNothing acts.old.events acts.new.events }
+    ensures saved { IsForOther target.now → IfOk result (λ _. SavedAndSaid file.now acts.new.events) }
+    ensures seen { IsForOther target.now → ShowsSaved acts.old.events acts.new.events }
 {
     check_unless(host, is_forced, written_file(target), table, file, acts)?;
     let count = table.rows.as_slice().len();
@@ -326,6 +339,8 @@ fn write_and_tell(
 ) -> Result<u8, Problem>
     ensures done { IfOk result (λ status. status ≡ DONE) }
     ensures dry { target.now.is_dry ≡ true → WritesNothing acts.old.events acts.new.events }
+    ensures saved { IsForOther target.now → IfOk result (λ _. SavedAndSaid file.now acts.new.events) }
+    ensures seen { IsForOther target.now → ShowsSaved acts.old.events acts.new.events }
 {
     write_output(host, target, file, acts)?;
     let length = file.len();
@@ -352,6 +367,7 @@ fn read_beginning(host: &Host<'_>, path: &str, most: u64) -> Result<Vec<u8>, Not
 fn read_front(host: &Host<'_>, path: &str, most: u64, acts: &mut Acts) -> Result<Vec<u8>, NotRead>
     ensures notes { acts.new.events ≡ act.ReadFront path.now most (bytes_read result) ∷ acts.old.events }
     ensures quiet { ReadsOnly path.now acts.old.events acts.new.events }
+    ensures seen { ShowsSaved acts.old.events acts.new.events }
 {
     let read = read_beginning(host, path, most);
     note_front(acts, path, most, &read);
@@ -369,6 +385,7 @@ fn add_file(
     acts: &mut Acts,
 ) -> Result<usize, Problem>
     ensures quiet { WritesNothing acts.old.events acts.new.events }
+    ensures seen { ShowsSaved acts.old.events acts.new.events }
 {
     let alloc = host.alloc();
     let path = format!(in alloc; "{folder}/{file}")?;
@@ -392,6 +409,7 @@ fn read_files(
     acts: &mut Acts,
 ) -> Result<Files, Problem>
     ensures quiet { WritesNothing acts.old.events acts.new.events }
+    ensures seen { ShowsSaved acts.old.events acts.new.events }
 {
     let mut files = Files::new(host.alloc());
     let mut left = MOST_BYTES;
@@ -413,6 +431,7 @@ fn read_files(
 /// What `resources.json` says of a folder.
 fn packing_of(host: &Host<'_>, folder: &str, acts: &mut Acts) -> Result<Manifest, Problem>
     ensures quiet { WritesNothing acts.old.events acts.new.events }
+    ensures seen { ShowsSaved acts.old.events acts.new.events }
 {
     let alloc = host.alloc();
     let path = format!(in alloc; "{folder}/{MANIFEST}")?;
@@ -433,6 +452,7 @@ fn packing_in(
     acts: &mut Acts,
 ) -> Result<(Manifest, Files), Problem>
     ensures quiet { WritesNothing acts.old.events acts.new.events }
+    ensures seen { ShowsSaved acts.old.events acts.new.events }
 {
     let packing = packing_of(host, folder, acts)?;
     let packing = with_unlisted(host, folder, packing, adds, acts)?;
@@ -450,6 +470,8 @@ pub fn pack_folder<'a>(
 ) -> Result<u8, Failed<'a>>
     ensures done { IfOk result (λ status. status ≡ DONE) }
     ensures dry { is_dry_place asked.entry.place ≡ true → WritesNothing acts.old.events acts.new.events }
+    ensures saved { IsForPlace asked.entry.place → IfOk result (λ _. EndsSaved acts.new.events) }
+    ensures seen { IsForPlace asked.entry.place → ShowsSaved acts.old.events acts.new.events }
 {
     let folder = asked.folder;
     let (packing, files) = of_file(folder, packing_in(host, folder, asked.adds, acts))?;

@@ -1,7 +1,8 @@
 //! Files that are written: prepared beside their paths, and then put there.
 
-ghost use Rattle.std.specs.Prelude.{◌≡◌, ◌≢◌, IfErr, IfOk, codes};
+ghost use Rattle.std.specs.Prelude.{◌≡◌, ◌≢◌, [], IfErr, IfOk, codes};
 ghost use Rattle.resfork.specs.Problems.{IsNotSaved};
+ghost use Rattle.resfork.specs.Saving.{AreRenewed, IsForPath, IsOf, IsReadyOf, IsWhole, JustRead, JustSaved, SavesReady, ShowsSaved, ready_path};
 
 use crate::acts::{Acts, note_saved, print};
 use crate::host::Host;
@@ -51,7 +52,9 @@ fn prepared<'a>(
     path: &str,
     bytes: &'a [u8],
     log: &mut HeldCalls,
-) -> Result<Prepared<'a, UnknownFolder>, NotReplaced> {
+) -> Result<Prepared<'a, UnknownFolder>, NotReplaced>
+    ensures { IfOk result (IsOf bytes.now) }
+{
     match Destination::open(host.rt, path, log) {
         Ok(destination) => destination.prepare(host.rt, bytes, log),
         Err(refusal) => Err(refusal),
@@ -87,7 +90,9 @@ pub struct Renewal<'a> {
 }
 
 /// Opens a regular file that is to be replaced, and locks it.
-pub fn open_held(host: &Host<'_>, path: &str, acts: &mut Acts) -> Result<Held, Problem> {
+pub fn open_held(host: &Host<'_>, path: &str, acts: &mut Acts) -> Result<Held, Problem>
+    ensures { ShowsSaved acts.old.events acts.new.events }
+{
     let mut log = HeldCalls::new();
     let held = Held::open(host.rt, path, &mut log);
     note_saved(acts, &log);
@@ -104,7 +109,9 @@ fn renewed(
     held: Held,
     change: &Renewal<'_>,
     log: &mut HeldCalls,
-) -> Result<(), NotReplaced> {
+) -> Result<(), NotReplaced>
+    ensures { log.old.events ≡ [] → IfOk result (λ _. AreRenewed change.now.old.now change.now.new.now log.new.events) }
+{
     match held.prepare::<UnknownFolder, UnknownFolder>(
         host.rt,
         change.old,
@@ -130,7 +137,10 @@ pub fn renew(
     held: Held,
     change: &Renewal<'_>,
     acts: &mut Acts,
-) -> Result<(), Problem> {
+) -> Result<(), Problem>
+    ensures saves { JustRead change.now.old.now acts.old.events → IfOk result (λ _. JustSaved change.now.new.now acts.new.events) }
+    ensures seen { ShowsSaved acts.old.events acts.new.events }
+{
     let mut log = HeldCalls::new();
     let done = renewed(host, path, held, change, &mut log);
     note_saved(acts, &log);
@@ -141,8 +151,6 @@ pub fn renew(
 }
 
 impl<'a> Ready<'a> {
-    ghost use Rattle.resfork.specs.Saving.{ready_path};
-
     /// Makes a file of these bytes beside the path, and says what the old file has that it hasn't. The standard output
     /// must be no terminal.
     pub fn new(
@@ -153,6 +161,8 @@ impl<'a> Ready<'a> {
     ) -> Result<Ready<'a>, Problem>
         ensures path { IfOk result (λ ready. ready_path ready ≡ path.now) }
         ensures cause { IfErr result (IsNotSaved path.now) }
+        ensures whole { IfOk result (IsReadyOf bytes.now) }
+        ensures seen { ShowsSaved acts.old.events acts.new.events }
     {
         if path == OUTPUT {
             if host.rt.stdout().is_terminal() {
@@ -173,6 +183,8 @@ impl<'a> Ready<'a> {
         requires { path.now ≢ codes "-" }
         ensures path { IfOk result (λ ready. ready_path ready ≡ path.now) }
         ensures cause { IfErr result (IsNotSaved path.now) }
+        ensures whole { IfOk result (IsReadyOf bytes.now) }
+        ensures seen { ShowsSaved acts.old.events acts.new.events }
     {
         let mut log = HeldCalls::new();
         let prepared = prepared(host, path, bytes, &mut log);
@@ -189,6 +201,8 @@ impl<'a> Ready<'a> {
     /// Puts the file at its path, which has what it had until then; or writes the bytes.
     pub fn put(self, host: &Host<'_>, acts: &mut Acts) -> Result<(), Problem>
         ensures cause { IfErr result (IsNotSaved (ready_path self.entry)) }
+        ensures saves { IsForPath self.entry → IfOk result (λ _. SavesReady self.entry acts.new.events) }
+        ensures seen { IsForPath self.entry → ShowsSaved acts.old.events acts.new.events }
     {
         match self {
             Ready::Output(bytes) => print(host, bytes, acts),
@@ -201,6 +215,8 @@ impl ReadyFile<'_> {
     /// Puts the file at its path.
     fn put(self, host: &Host<'_>, acts: &mut Acts) -> Result<(), Problem>
         ensures cause { IfErr result (IsNotSaved self.entry.path.now) }
+        ensures saves { IfOk result (λ _. SavesReady (Ready.File self.entry) acts.new.events) }
+        ensures seen { ShowsSaved acts.old.events acts.new.events }
     {
         let ReadyFile { path, prepared } = self;
         let mut log = HeldCalls::new();
@@ -242,7 +258,10 @@ fn put_files(
     first: ReadyFile<'_>,
     second: ReadyFile<'_>,
     acts: &mut Acts,
-) -> Result<(), Problem> {
+) -> Result<(), Problem>
+    ensures saves { IsWhole (Ready.File first.entry) → IfOk result (λ _. SavesReady (Ready.File second.entry) acts.new.events) }
+    ensures seen { ShowsSaved acts.old.events acts.new.events }
+{
     let ReadyFile { path, prepared } = first;
     let ReadyFile {
         path: next,
@@ -263,7 +282,10 @@ pub fn put_two(
     first: Ready<'_>,
     second: Ready<'_>,
     acts: &mut Acts,
-) -> Result<(), Problem> {
+) -> Result<(), Problem>
+    ensures saves { IsForPath first.entry → IsForPath second.entry → IsWhole first.entry → IfOk result (λ _. SavesReady second.entry acts.new.events) }
+    ensures seen { IsForPath first.entry → IsForPath second.entry → ShowsSaved acts.old.events acts.new.events }
+{
     match (first, second) {
         (Ready::File(first), Ready::File(second)) => put_files(host, first, second, acts),
         (first, second) => {
@@ -276,6 +298,8 @@ pub fn put_two(
 /// Writes a file, which is whole then, or as it was; or bytes to the standard output, unless it is a terminal.
 pub fn save_to(host: &Host<'_>, output: &str, bytes: &[u8], acts: &mut Acts) -> Result<(), Problem>
     ensures cause { IfErr result (IsNotSaved output.now) }
+    ensures saves { output.now ≢ codes "-" → IfOk result (λ _. JustSaved bytes.now acts.new.events) }
+    ensures seen { output.now ≢ codes "-" → ShowsSaved acts.old.events acts.new.events }
 {
     put_ready(host, output, bytes, acts)
 }
@@ -288,6 +312,8 @@ fn put_ready<'a>(
     acts: &mut Acts,
 ) -> Result<(), Problem>
     ensures cause { IfErr result (IsNotSaved output.now) }
+    ensures saves { output.now ≢ codes "-" → IfOk result (λ _. JustSaved bytes.now acts.new.events) }
+    ensures seen { output.now ≢ codes "-" → ShowsSaved acts.old.events acts.new.events }
 {
     Ready::new(host, output, bytes, acts)?.put(host, acts)
 }

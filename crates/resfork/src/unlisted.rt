@@ -2,6 +2,7 @@
 
 ghost use Rattle.std.specs.Prelude.{◌≡◌, ◌∷◌};
 ghost use Rattle.resfork.specs.Acts.{ReadsOnly, WritesNothing};
+ghost use Rattle.resfork.specs.Saving.{ShowsSaved};
 ghost use Rattle.resfork.specs.declared.acts.Act.TheVariants as act;
 
 use crate::acts::{Acts, look_at, note_listed};
@@ -38,6 +39,7 @@ fn names_at(host: &Host<'_>, path: &str) -> io::Result<Vec<String>> {
 fn names_in(host: &Host<'_>, path: &str, acts: &mut Acts) -> Result<Vec<String>, Problem>
     ensures notes { acts.new.events ≡ act.Listed path.now ∷ acts.old.events }
     ensures quiet { ReadsOnly path.now acts.old.events acts.new.events }
+    ensures seen { ShowsSaved acts.old.events acts.new.events }
 {
     let names = names_at(host, path);
     note_listed(acts, path);
@@ -67,6 +69,7 @@ fn add_inner(
     acts: &mut Acts,
 ) -> Result<(), Problem>
     ensures quiet { WritesNothing acts.old.events acts.new.events }
+    ensures seen { ShowsSaved acts.old.events acts.new.events }
 {
     let alloc = host.alloc();
     let path = format!(in alloc; "{folder}/{kind}")?;
@@ -87,6 +90,7 @@ fn is_folder_in(
     acts: &mut Acts,
 ) -> Result<bool, AllocError>
     ensures quiet { WritesNothing acts.old.events acts.new.events }
+    ensures seen { ShowsSaved acts.old.events acts.new.events }
 {
     let path = format!(in host.alloc(); "{folder}/{name}")?;
     match look_at(host, path.as_str(), acts) {
@@ -103,6 +107,7 @@ fn unlisted(
     acts: &mut Acts,
 ) -> Result<Paths, Problem>
     ensures quiet { WritesNothing acts.old.events acts.new.events }
+    ensures seen { ShowsSaved acts.old.events acts.new.events }
 {
     let listed = listed_paths(host, entries)?;
     let mut others = Paths::new(host.alloc());
@@ -126,6 +131,7 @@ pub fn with_unlisted(
     acts: &mut Acts,
 ) -> Result<Packing, Problem>
     ensures quiet { WritesNothing acts.old.events acts.new.events }
+    ensures seen { ShowsSaved acts.old.events acts.new.events }
 {
     let alloc = host.alloc();
     let others = unlisted(host, folder, packing.entries.as_slice(), acts)?;
