@@ -10,8 +10,8 @@ use Rattle.file_replace.specs.declared.rights.Rights.{Rights}
 use Rattle.file_replace.specs.Place.{Answered}
 use Rattle.file_replace.specs.Replacing.{CallsOf, prepared_calls}
 use Rattle.resfork.specs.declared.acts.Act.TheVariants as act
-use Rattle.resfork.specs.declared.save.Ready.{Ready}
-use Rattle.resfork.specs.declared.save.Ready.TheVariants as ready
+use Rattle.resfork.specs.declared.ready.Ready.{Ready}
+use Rattle.resfork.specs.declared.ready.Ready.TheVariants as ready
 use Rattle.resfork.specs.Acts.{Log}
 
 -- the path at which a file is put; "-" is the standard output

@@ -13,7 +13,8 @@ use crate::host::Host;
 use crate::input::{read, read_other};
 use crate::message::{DONE, Problem};
 use crate::order::{Order, order_of};
-use crate::save::{OUTPUT, Ready, put_two, save_to};
+use crate::ready::Ready;
+use crate::save::{OUTPUT, put_two, save_to};
 use crate::{INPUT, fork_found, refused_as, table_found};
 use fork_answer::{Failure, NoFork};
 use fork_edit::convert::{Loss, NotConverted, Rewritten, Transfer, converted, holds_data};
@@ -206,8 +207,8 @@ fn put_in(
     data: Ready<'_>,
     acts: &mut Acts,
 ) -> Result<(), Problem>
-    ensures saved { IsForPath output.entry → IsForPath data.entry → IsWhole output.entry → IsWhole data.entry → IfOk result (λ _. SomeSaved acts.new.events) }
-    ensures seen { IsForPath output.entry → IsForPath data.entry → ShowsSaved acts.old.events acts.new.events }
+    ensures saved { IsForPath output.entry → IsForPath «data».entry → IsWhole output.entry → IsWhole «data».entry → IfOk result (λ _. SomeSaved acts.new.events) }
+    ensures seen { IsForPath output.entry → IsForPath «data».entry → ShowsSaved acts.old.events acts.new.events }
 {
     match order {
         Order::OutputFirst => put_two(host, output, data, acts),

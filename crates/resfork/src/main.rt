@@ -19,6 +19,7 @@ mod message;
 mod order;
 mod output;
 mod parts;
+mod ready;
 mod rez;
 mod save;
 mod unlisted;

@@ -7,6 +7,7 @@ ghost use Rattle.resfork.specs.Saving.{AreRenewed, IsForPath, IsOf, IsReadyOf, I
 use crate::acts::{Acts, note_saved, print};
 use crate::host::Host;
 use crate::message::Problem;
+use crate::ready::{Ready, ReadyFile};
 use file_replace::{
     Destination, Difference, Held, HeldCalls, Losses, NotBoth, NotReplaced, Prepared,
     UnknownFolder, put_both,
@@ -17,23 +18,6 @@ use std::path::PathBuf;
 
 /// The word for the standard output, in place of a file's name.
 pub const OUTPUT: &str = "-";
-
-/// A file that lies beside its path, ready to be put there.
-#[derive(Drop)]
-pub struct ReadyFile<'a> {
-    path: &'a str,
-    prepared: Prepared<'a, UnknownFolder>,
-    ghost named: { path.now ≢ codes "-" },
-}
-
-/// Bytes that are ready to be written.
-#[derive(Drop)]
-pub enum Ready<'a> {
-    /// To the standard output.
-    Output(&'a [u8]),
-    /// As a file.
-    File(ReadyFile<'a>),
-}
 
 /// Why the file of this path isn't written.
 fn not_saved(host: &Host<'_>, path: &str, error: NotReplaced) -> Problem
