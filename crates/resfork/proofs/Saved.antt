@@ -35,6 +35,10 @@ use Rattle.resfork.specs.Changing.{EndsAs, EndsBy}
 use Rattle.resfork.specs.Saving.{AreGood, ArePut, AreRenewed, EndsSaved, IsGood, IsOf, IsPut, JustRead, JustSaved, SeenIsSaved, ShowsSaved}
 use Rattle.resfork.specs.Statuses.{is_of_fork, is_of_resource, is_of_words, status_of}
 
+-- what a path has and what is beside it: of that nothing is said
+abbrev pub unknown : HeldAt
+unknown calls = record { path = None; beside = None }
+
 -- the calls of a file that was put are those that made it, and those of its rename
 put_calls : (bytes : List ℕ) (rights : Option Rights) (now : Owner) (answer : FolderSync) (made all : List Answered) → made ≡ prepared_calls rights now bytes []
     → all ≡ answered (calls.SyncFolder answer) true [] ∷ after_check SyncFolder made → IsPut bytes all
@@ -130,10 +134,6 @@ renewed_good there backup keeps it before after p outcome none mid new empty pre
 pub saved_put : (bytes : List ℕ) (all : List HeldCall) (old new : Log) → new ≡ act.Saved all ∷ old → ArePut bytes all → JustSaved bytes new
 saved_put bytes [] old new is put = absurd put
 saved_put bytes (call ∷ before) old new is put = subst (λ (log : Log). JustSaved bytes log) (sym is) put
-
-pub saved_ready : {F : Type 0} (there : HeldAt) (bytes : List ℕ) (p : Prepared F) (outcome : Outcome) (none all : List HeldCall) (old new : Log) → none ≡ []
-    → PutsPrepared there p (Ok outcome) none all → new ≡ act.Saved all ∷ old → IsOf bytes p → JustSaved bytes new
-saved_ready there bytes p outcome none all old new empty put is of = saved_put bytes all old new is (put_good there bytes p outcome none all of put (subst AreGood (sym empty) tt))
 
 pub saved_two : {F G : Type 0} (there also : HeldAt) (bytes others : List ℕ) (p : Prepared F) (q : Prepared G) (outcomes : Outcome × Outcome) (none all : List HeldCall) (old new : Log) → none ≡ []
     → PutsTwo there also p q (Ok outcomes) none all → new ≡ act.Saved all ∷ old → IsOf bytes p → IsOf others q → JustSaved others new
