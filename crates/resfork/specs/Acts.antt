@@ -1,5 +1,5 @@
 -- What was done with the host's files and with the standard output, and what was written.
-use Rattle.std.specs.Prelude.{◌≡◌, ℕ, true, false, List, [], ◌∷◌, Option, None, Some, Result, Ok, Err, Vec, ⊤}
+use Rattle.std.specs.Prelude.{◌≡◌, ◌⊎◌, ℕ, IsErrAnd, true, false, List, [], ◌∷◌, Option, None, Some, Result, Ok, Err, Vec, ⊤}
 use Rattle.std.specs.Borrow.{Bor}
 use Rattle.std.specs.List.{All, Contains}
 use Rattle.std.specs.Global.{Global}
@@ -17,6 +17,10 @@ Log = List Act
 abbrev pub bytes_read : {E : Type 0} → Result (Vec ℕ Global) E → Option (List ℕ)
 bytes_read (Ok bytes) = Some bytes.items
 bytes_read (Err error) = None
+
+-- one thing was done, and then another with what came of it; where the first wasn't done, no other was
+abbrev pub Then : {T U : Type 0} → (Result T Problem → Log → Log → Type 0) → (T → Result U Problem → Log → Log → Type 0) → Result U Problem → Log → Log → Type 0
+Then {T} First Next result old new = IsErrAnd result (λ why. First (Err why) old new) ⊎ ((value : T) × (mid : Log) × First (Ok value) old mid × Next value result mid new)
 
 -- the paths of the files that may be read, or none where any may
 abbrev pub Paths : Type 0

@@ -3,5 +3,7 @@ pub mod Problems
 pub mod Reading
 pub mod Acts
 pub mod Saving
+pub mod Showing
+pub mod Reporting
 pub mod Running
 pub mod Order

@@ -5,7 +5,10 @@ ghost use Rattle.std.specs.Prelude.{◌≡◌, ◌≤◌, ℕ, List, None, Resul
 ghost use Rattle.fork_list.specs.Listing.{absent_kind};
 ghost use Rattle.resfork.specs.Acts.{Prints, ReadsNothing, ReadsOnly, ReadsThese};
 ghost use Rattle.resfork.specs.Problems.{IsToldOfKinds};
+ghost use Rattle.fork_report.specs.Reported.{form_of};
+ghost use Rattle.resfork.specs.Reporting.{PrintsRefusal, PrintsTold, Reports, ReportsAll, TellsFile, TellsWhole, WritesTold, is_json};
 ghost use Rattle.resfork.specs.Running.{ReadsAsked, only_lists, only_reads};
+ghost use Rattle.resfork.specs.Showing.{PrintsSome, WritesLines, WritesSome};
 ghost use Rattle.resfork.specs.Statuses.{status_after};
 
 mod acts;
@@ -113,6 +116,7 @@ fn write_lines(
     lines: &[u8],
     acts: &mut Acts,
 ) -> Result<(), Problem>
+    ensures writes { WritesLines titles (length files.now) lines.now result acts.old.events acts.new.events }
     ensures quiet { ReadsNothing acts.old.events acts.new.events }
 {
     if lines.is_empty() {
@@ -130,6 +134,7 @@ fn write_lines(
 
 /// Writes a line with the name of a file.
 fn write_title(host: &Host<'_>, file: &str, acts: &mut Acts) -> Result<(), Problem>
+    ensures prints { PrintsSome result acts.old.events acts.new.events }
     ensures quiet { ReadsNothing acts.old.events acts.new.events }
 {
     let name = FileName(file);
@@ -141,6 +146,7 @@ fn write_title(host: &Host<'_>, file: &str, acts: &mut Acts) -> Result<(), Probl
 
 /// Writes lines, each with the name of a file before it.
 fn write_each(host: &Host<'_>, file: &str, lines: &[u8], acts: &mut Acts) -> Result<(), Problem>
+    ensures writes { WritesSome Titles.BeforeLines 0 lines.now result acts.old.events acts.new.events }
     ensures quiet { ReadsNothing acts.old.events acts.new.events }
 {
     let alloc = host.alloc();
@@ -321,6 +327,7 @@ fn refused_as(host: &Host<'_>, failure: Failure, bytes: &[u8]) -> Problem {
 
 /// Reports on each of these files, and says why of some nothing is reported. The result is the highest status of them.
 fn report_all<W: World>(host: &Host<'_>, asked: &Reporting<'_>, acts: &mut Acts) -> u8
+    ensures reports { ReportsAll asked.now result acts.old.events acts.new.events }
     ensures few { result ≤ CANT_GO_ON }
     ensures quiet { ReadsThese asked.now.files.items acts.old.events acts.new.events }
 {
@@ -340,6 +347,7 @@ fn report_one<W: World>(
     file: &str,
     acts: &mut Acts,
 ) -> Result<u8, Problem>
+    ensures reports { Reports asked.now file.now result acts.old.events acts.new.events }
     ensures few { IfOk result (λ status. status ≤ NO_FORK) }
     ensures quiet { ReadsOnly file.now acts.old.events acts.new.events }
 {
@@ -351,7 +359,9 @@ fn report_one<W: World>(
 }
 
 /// Whether a report is one of lines of JSON, in which each file is named.
-fn is_json(report: &Report) -> bool {
+fn is_json(report: &Report) -> bool
+    ensures { result ≡ is_json (form_of report.now) }
+{
     matches!(report.form(), Form::Json)
 }
 
@@ -362,6 +372,7 @@ fn report_file<W: World>(
     file: &str,
     acts: &mut Acts,
 ) -> Result<Told, Problem>
+    ensures tells { TellsFile report.now file.now result acts.old.events acts.new.events }
     ensures quiet { ReadsOnly file.now acts.old.events acts.new.events }
 {
     if let Report::List {
@@ -386,6 +397,7 @@ fn report_whole(
     file: &str,
     acts: &mut Acts,
 ) -> Result<Told, Problem>
+    ensures tells { TellsWhole report.now file.now result acts.old.events acts.new.events }
     ensures quiet { ReadsOnly file.now acts.old.events acts.new.events }
 {
     let bytes = read(host, file, acts)?;
@@ -403,6 +415,7 @@ fn print_told(
     told: &Told,
     acts: &mut Acts,
 ) -> Result<u8, Problem>
+    ensures prints { PrintsTold asked.now told.now result acts.old.events acts.new.events }
     ensures status { IfOk result (λ status. status ≡ (if told.now.is_damaged then NO_FORK else DONE)) }
     ensures quiet { ReadsNothing acts.old.events acts.new.events }
 {
@@ -419,6 +432,7 @@ fn write_told(
     told: &Told,
     acts: &mut Acts,
 ) -> Result<(), Problem>
+    ensures writes { WritesTold (is_json (form_of asked.now.report)) asked.now told.now result acts.old.events acts.new.events }
     ensures quiet { ReadsNothing acts.old.events acts.new.events }
 {
     if is_json(&asked.report) {
@@ -431,6 +445,7 @@ fn write_told(
 
 /// Writes as JSON why nothing is reported of a file, which is what is in the way then, unless the line isn't written.
 fn refused(host: &Host<'_>, file: &str, problem: Problem, acts: &mut Acts) -> Problem
+    ensures prints { PrintsRefusal problem result acts.old.events acts.new.events }
     ensures quiet { ReadsNothing acts.old.events acts.new.events }
 {
     let Ok(line) = refusal_line(host, file, &problem) else {

@@ -1,9 +1,11 @@
 //! Files that are resource forks and nothing else: of them only what is shown is read.
 
-ghost use Rattle.std.specs.Prelude.{◌≡◌, ◌≢◌, Err, IfErr, IfNone, IfSome, Some};
+ghost use Rattle.std.specs.Prelude.{◌≡◌, ◌≢◌, Err, IfErr, IfNone, IfSome, IsSome, Some};
 ghost use Rattle.fork_bytes.specs.declared.fault.ForkFault.{ForkFault};
 ghost use Rattle.fork_answer.specs.Answer.{IsQuiet};
 ghost use Rattle.resfork.specs.Acts.{ReadsOnly};
+ghost use Rattle.resfork.specs.Reporting.{IsInParts};
+ghost use Rattle.resfork.specs.Showing.{Looks, TriesParts};
 
 use crate::INPUT;
 use crate::acts::{Acts, look_at, note_parts};
@@ -33,6 +35,7 @@ fn file_of<W: World>(
     name: &str,
     acts: &mut Acts,
 ) -> Option<PlainStore<FileDisk<W>>>
+    ensures looks { Looks name.now acts.old.events acts.new.events }
     ensures quiet { ReadsOnly name.now acts.old.events acts.new.events }
 {
     if name == INPUT {
@@ -76,6 +79,8 @@ pub fn list_by_parts<W: World>(
     kinds: &[ResType],
     acts: &mut Acts,
 ) -> Option<Result<String, AllocError>>
+    ensures tries { IfNone result (TriesParts name.now acts.old.events acts.new.events) }
+    ensures lists { IsSome result → IsInParts name.now acts.old.events acts.new.events }
     ensures reads { ReadsOnly name.now acts.old.events acts.new.events }
 {
     let mut store = file_of::<W>(host, name, acts)?;
