@@ -24,7 +24,7 @@ pub overflow_add-from : goal.overflow_add-from
 overflow_add-from c =
     let some = c.in-Some.ensures.some in
     let inside = within (is_on (shape_of c.args.zone) c.args.side) (handle_reached c.args.reach) (rows_of c.args.number c.files-files.result.now.files) c.loop-found.from c.in-Some.found.0 c.in-Some.found.1
-        some.0 some.1 some.2 some.3 (none_reached c.args.reach some.0 some.4) some.6 in
+    some.0 some.1 some.2 some.3 (none_reached c.args.reach some.0 some.4) some.6 in
     let few = c.in-Some.ensures.few in
     omega arith
 
@@ -35,7 +35,7 @@ loop-found-preserved c =
     let is = subst (λ (files : Files). drop c.loop-found.from (rows_of c.args.number files) ≡ some.0 ++ some.1 ∷ some.2) c.files-files.ensures some.3 in
     let none = none_reached c.args.reach some.0 some.4 in let later = filter_map f some.2 in
     let there = row_there c.args.number c.in-Some.found.0 c.args.self.now.files r
-        (is_there on f (rows_of c.args.number c.args.self.now.files) c.loop-found.from c.in-Some.found.0 c.in-Some.found.1 some.0 r some.2 is none some.6) in
+    (is_there on f (rows_of c.args.number c.args.self.now.files) c.loop-found.from c.in-Some.found.0 c.in-Some.found.1 some.0 r some.2 is none some.6) in
     let skips : find on (cons_option (f r) later) ≡ find on later = elim c.else-is_on.branch [
       | else-is_on-via-then-is_on+else-reaches w ↦ unreached on c.args.reach r later (ap (λ (b : Bool). if b then r.handle else None) (sym w.if-reaches.false) ∙ w.reaches.ensures r there)
       | else-is_on-via-else-is_on w ↦ away on c.args.reach r c.in-Some.found.1 later some.5 (ap on (sym c.number.ensures) ∙ sym c.is_on.ensures ∙ w.if-is_on.false)
