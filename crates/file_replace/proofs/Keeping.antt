@@ -25,7 +25,7 @@ module _ (there : HeldAt) (rights : Option Rights) (bytes : List ℕ) (start cal
 -- what is true of an end is true of it as it is reported
 module _ (P : Result (FolderSync × FolderSync) (PairFault Error Error) → Type 0) (fault : PairFault Error Error) where
   pub ends : (refusal : NotBoth) → EndsBoth (λ end. end ≡ Err fault) (Err refusal) → P (Err fault) → EndsBoth P (Err refusal)
-  ends (First (refusals.Stopped stop) left) is has = subst P (sym is) has
+  ends (First (refusals.Stopped stop) left) is has = (subst P (sym is.0) has, is.1)
   ends (First (refusals.Open error) left) is has = absurd is
   ends (First refusals.NotAFile left) is has = absurd is
   ends (First refusals.InUse left) is has = absurd is

@@ -1,12 +1,14 @@
 -- By which calls of the system a path of the host does what it is asked for. The newest call comes first.
-use Rattle.std.specs.Prelude.{◌≡◌, ⊤, Bool, true, false, List, ℕ, [], ◌∷◌, Option, Some, None, Result, Ok, Err, IsErr, is_ok}
+use Rattle.std.specs.Prelude.{◌≡◌, ◌⊎◌, Bool, true, false, List, ℕ, [], ◌∷◌, Option, Some, None, Result, Ok, Err, IsErr, is_ok}
 use Rattle.std.specs.declared.fs.File.{File}
-use Rattle.host_paths.specs.Asked.{LeadsTo, Log, folder_name}
-use Rattle.host_paths.specs.Made.{MakesBeside, RemovesAt, path_of}
+use Rattle.host_paths.specs.Asked.{LeadsTo, Log, done_answer, folder_name}
+use Rattle.host_paths.specs.Left.{OnlyBeside}
+use Rattle.host_paths.specs.Made.{MakesBeside, RemovesAt, file_of, path_of}
 use Rattle.host_paths.specs.declared.beside.Beside.{Beside}
 use Rattle.host_paths.specs.declared.host.Answer.{Answer}
 use Rattle.host_paths.specs.declared.host.Answer.TheVariants.{Is, Nothing, Failed}
-use Rattle.host_paths.specs.declared.host.HostCall.TheVariants.{At, Open, Rename, Sync}
+use Rattle.host_paths.specs.declared.host.HostCall.TheVariants.{At, Give, Of, Open, Rename, SetMode, Sync, Write}
+use Rattle.host_paths.specs.declared.host.Found.{Found}
 use Rattle.host_paths.specs.declared.host.Access.TheVariants.{Read}
 use Rattle.host_paths.specs.declared.host.Syncing.{Syncing}
 use Rattle.host_paths.specs.declared.host.Syncing.TheVariants as answers
@@ -14,6 +16,7 @@ use Rattle.file_replace.specs.declared.place.FolderSync.{FolderSync}
 use Rattle.file_replace.specs.declared.place.FolderSync.TheVariants as syncs
 use Rattle.file_replace.specs.declared.host_place.There.{There}
 use Rattle.file_replace.specs.declared.host_place.There.TheVariants as places
+use Rattle.file_replace.specs.declared.rights.Owner.{Owner}
 
 -- a path has nothing, not even a link
 abbrev pub is_nothing : Answer → Bool
@@ -27,11 +30,44 @@ Has (places.This file) path is old new = LeadsTo path file is old new
 Has places.Nothing path is old new = (answer : Answer) × (is ≡ is_nothing answer) × (new ≡ At path answer ∷ old)
 Has places.Anything path is old new = (is ≡ true) × (new ≡ old)
 
--- a file was made beside the path, by the last call
-abbrev pub MakesIt : {T E : Type 0} → List ℕ → Bool → Option Beside → Result T E → Log → Type 0
-MakesIt path is_private (Some beside) (Ok value) new = MakesBeside path is_private beside new
-MakesIt path is_private None (Ok value) new = ⊥
-MakesIt path is_private beside (Err error) new = ⊤
+-- a file was made beside the path, by the last calls; or it wasn't; and nothing else was done there
+abbrev pub MakesIt : {T E : Type 0} → List ℕ → Bool → Option Beside → Result T E → Log → Log → Type 0
+MakesIt path is_private beside (Err error) old new = OnlyBeside path old new
+MakesIt path is_private (Some beside) (Ok value) old new = MakesBeside path is_private beside new × OnlyBeside path old new
+MakesIt path is_private None (Ok value) old new = ⊥
+
+-- these bytes were to be written to the file beside; without one it fails
+abbrev pub WritesIt : {T E : Type 0} → Option Beside → List ℕ → Result T E → Log → Log → Type 0
+WritesIt None bytes result old new = IsErr result
+WritesIt (Some beside) bytes result old new = new ≡ Write (file_of beside) bytes (is_ok result) ∷ old
+
+-- a file was to be given to an owner: to the user and the group, or else to the group alone
+abbrev pub IsGivenTo : File → Owner → Log → Log → Type 0
+IsGivenTo file owner old new = (new ≡ Give file (Some owner.user) owner.group true ∷ old)
+    ⊎ ((is_done : Bool) × (new ≡ Give file None owner.group is_done ∷ Give file (Some owner.user) owner.group false ∷ old))
+
+-- to whom it belongs then, which was asked for
+abbrev pub BelongsTo : {E : Type 0} → File → Result Owner E → Log → Log → Type 0
+BelongsTo file (Ok owner) old new = (found : Found) × (owner ≡ record { user = found.user; group = found.group }) × (new ≡ Of file (Is found) ∷ old)
+BelongsTo file (Err error) old new = new ≡ Of file Failed ∷ old
+
+abbrev pub Gives : {E : Type 0} → File → Owner → Result Owner E → Log → Log → Type 0
+Gives file owner result old new = (mid : Log) × IsGivenTo file owner old mid × BelongsTo file result mid new
+
+-- the same of the file beside; without one it fails
+abbrev pub GivesIt : {E : Type 0} → Option Beside → Owner → Result Owner E → Log → Log → Type 0
+GivesIt None owner result old new = IsErr result
+GivesIt (Some beside) owner result old new = Gives (file_of beside) owner result old new
+
+-- the file beside was to get this mode; without one it fails
+abbrev pub SetsMode : {T E : Type 0} → Option Beside → ℕ → Result T E → Log → Log → Type 0
+SetsMode None mode result old new = IsErr result
+SetsMode (Some beside) mode result old new = new ≡ SetMode (file_of beside) mode (is_ok result) ∷ old
+
+-- the file beside was to be synced; without one it fails
+abbrev pub SyncsIt : {T E : Type 0} → Option Beside → Result T E → Log → Log → Type 0
+SyncsIt None result old new = IsErr result
+SyncsIt (Some beside) result old new = new ≡ Sync (file_of beside) (done_answer result) ∷ old
 
 -- the file beside was to be renamed to this path; without one it fails
 abbrev pub RenamesIt : {T E : Type 0} → Option Beside → List ℕ → Result T E → Log → Log → Type 0
@@ -43,7 +79,7 @@ abbrev pub RemovesIt : {T E : Type 0} → Option Beside → Result T E → Log �
 RemovesIt None result old new = new ≡ old
 RemovesIt (Some beside) result old new = RemovesAt (path_of beside) result old new
 
--- the folder of a path was to be opened, to be read, before any other call
+-- the folder of a path was to be opened, to be read
 abbrev pub OpensFolder : List ℕ → Option File → Log → Type 0
 OpensFolder path folder new = new ≡ Open Read (folder_name path) folder ∷ []
 

@@ -35,9 +35,11 @@ use Rattle.file_replace.specs.declared.rights.Owner.{Owner}
 use Rattle.file_replace.specs.declared.rights.Rights.{Rights}
 use Rattle.file_replace.specs.declared.told.NotReplaced.{NotReplaced}
 use Rattle.file_replace.specs.declared.told.NotReplaced.TheVariants as refusals
-use Rattle.file_replace.specs.declared.told.Stop.{Stop}
+use Rattle.file_replace.specs.declared.stop.Stop.{Stop}
 use Rattle.file_replace.specs.Place.{Answered, IfHonest}
 use Rattle.file_replace.specs.OnPlace.{answered}
+use Rattle.file_replace.specs.LeftBeside.{IsMadeLeft}
+use Rattle.file_replace.specs.OnHost.{IsSpot, spot_of}
 use Rattle.file_replace.specs.Calls.{HeldAt, seen_at}
 use Rattle.file_replace.specs.Pair.{CallsOfBoth, IfBothHonest, PutsBoth}
 use Rattle.file_replace.specs.Replacing.{CallsOf, CallsToPrepare, CallsToPut, Prepares, Puts, ReplacesFile}
@@ -82,27 +84,28 @@ abbrev pub prepared_losses : {F : Type 0} → Prepared F → Losses
 prepared_losses (prepared.File file) = file.losses
 prepared_losses it = record { names = None; user = None; group = None }
 
--- A file was made beside this path, whose folder is open, or why not. It is renamed only while the path has what is
--- wanted.
-abbrev pub MakesFile : {F : Type 0} → HeldAt → List ℕ → Wanted → Option Rights → ℕ → List ℕ → Result (NewFile F) Stop → Log → Log → Type 0
-MakesFile there path wanted rights names bytes (Ok file) old new = (path_buf_bytes file.path ≡ path) × (new ≡ OpenFolder wanted true ∷ old)
+-- A file was made beside this path, whose folder is open, or why not. It is renamed only there, and only while the path
+-- has what it has to have.
+abbrev pub MakesFile : {F : Type 0} → HeldAt → List ℕ → There → Option Rights → ℕ → List ℕ → Result (NewFile F) Stop → Log → Log → Type 0
+MakesFile there path has rights names bytes (Ok file) old new = IsSpot path has (spot_of file.place) × (new ≡ OpenFolder (wanted_of has) true ∷ old)
     × ((now : Option Owner) × IsPrepared there rights bytes (Ok now) file.place.log.events × (file.losses ≡ losses_by rights names now))
-MakesFile there path wanted rights names bytes (Err stop) old new = IsShut wanted stop old new ⊎ ((calls : List Answered) × (new ≡ Put path calls ∷ OpenFolder wanted true ∷ old) × IsPrepared there rights bytes (Err (fault_of stop)) calls)
+MakesFile there path has rights names bytes (Err stop) old new = IsShut (wanted_of has) stop old new
+    ⊎ ((calls : List Answered) × (new ≡ Put path calls ∷ OpenFolder (wanted_of has) true ∷ old) × IsPrepared there rights bytes (Err (fault_of stop)) calls)
 
 -- the same of what is prepared
-abbrev pub MakesPrepared : {F : Type 0} → HeldAt → List ℕ → Wanted → Option Rights → ℕ → List ℕ → Result (Prepared F) NotReplaced → Log → Log → Type 0
-MakesPrepared there path wanted rights names bytes (Ok (prepared.File file)) old new = MakesFile there path wanted rights names bytes (Ok file) old new
-MakesPrepared {F} there path wanted rights names bytes (Err (refusals.Stopped stop)) old new = MakesFile {F = F} there path wanted rights names bytes (Err stop) old new
-MakesPrepared there path wanted rights names bytes result old new = ⊥
+abbrev pub MakesPrepared : {F : Type 0} → HeldAt → List ℕ → There → Option Rights → ℕ → List ℕ → Result (Prepared F) NotReplaced → Log → Log → Type 0
+MakesPrepared there path has rights names bytes (Ok (prepared.File file)) old new = MakesFile there path has rights names bytes (Ok file) old new
+MakesPrepared {F} there path has rights names bytes (Err (refusals.Stopped stop)) old new = MakesFile {F = F} there path has rights names bytes (Err stop) old new
+MakesPrepared there path has rights names bytes result old new = ⊥
 
 -- the file beside its path was put there, or why not
 abbrev pub PutsFile : {F : Type 0} → HeldAt → NewFile F → Result FolderSync Stop → Log → Log → Type 0
-PutsFile there file result old new = (calls : List Answered) × (new ≡ Put (path_buf_bytes file.path) calls ∷ old) × CallsToPut (end_of result) file.place.log.events calls
+PutsFile there file result old new = (calls : List Answered) × (new ≡ Put (path_buf_bytes file.place.path) calls ∷ old) × CallsToPut (end_of result) file.place.log.events calls
     × IfHonest (Puts (end_of result)) (seen_at there file.place.log.events) (seen_at there calls)
 
 -- the file beside its path was removed, or is left
 abbrev pub GivesUp : {F : Type 0} → NewFile F → Option (PathBuf Global) → Log → Log → Type 0
-GivesUp file left old new = new ≡ Put (path_buf_bytes file.path) (answered calls.Remove (not (is_some left)) [] ∷ file.place.log.events) ∷ old
+GivesUp file left old new = (new ≡ Put (path_buf_bytes file.place.path) (answered calls.Remove (not (is_some left)) [] ∷ file.place.log.events) ∷ old) × IsMadeLeft left
 
 -- what is prepared was put, or why not
 abbrev pub PutsPrepared : {F : Type 0} → HeldAt → Prepared F → Result Outcome NotReplaced → Log → Log → Type 0
@@ -121,7 +124,7 @@ GivesUpPrepared it left old new = (left ≡ None) × (new ≡ old)
 -- two files of these places were put, the second only after the first
 abbrev pub PutsFiles : {F G : Type 0} → HeldAt → HeldAt → NewFile F → NewFile G → Result (FolderSync × FolderSync) (PairFault Error Error) → Log → Log → Type 0
 PutsFiles there also first second result old new = (calls : List Answered) × (others : List Answered)
-    × (new ≡ Put (path_buf_bytes second.path) others ∷ Put (path_buf_bytes first.path) calls ∷ old)
+    × (new ≡ Put (path_buf_bytes second.place.path) others ∷ Put (path_buf_bytes first.place.path) calls ∷ old)
     × CallsOfBoth result first.place.log.events calls second.place.log.events others
     × IfBothHonest (PutsBoth result (seen_at there first.place.log.events) (seen_at there calls) (seen_at also second.place.log.events) (seen_at also others))
     (seen_at there first.place.log.events) (seen_at there calls) (seen_at also second.place.log.events) (seen_at also others)
@@ -129,7 +132,7 @@ PutsFiles there also first second result old new = (calls : List Answered) × (o
 -- the end of two files, as it is reported
 abbrev pub EndsBoth : (Result (FolderSync × FolderSync) (PairFault Error Error) → Type 0) → Result (FolderSync × FolderSync) NotBoth → Type 0
 EndsBoth P (Ok answers) = P (Ok answers)
-EndsBoth P (Err (First (refusals.Stopped stop) left)) = P (Err (faults.First (fault_of stop) (is_some left)))
+EndsBoth P (Err (First (refusals.Stopped stop) left)) = P (Err (faults.First (fault_of stop) (is_some left))) × IsMadeLeft left
 EndsBoth P (Err (Second (refusals.Stopped stop))) = P (Err (faults.Second (fault_of stop)))
 EndsBoth P result = ⊥
 
@@ -164,9 +167,9 @@ BacksUp there held bytes (Err refusal) old new = ⊥
 
 -- where a copy of a file is kept, it is put before the new one is made, and where that fails none is made
 abbrev pub MakesOver : {F : Type 0} → HeldAt → HeldAt → Bool → Held → List ℕ → List ℕ → Result (Prepared F) NotReplaced → Log → Log → Type 0
-MakesOver there backup false held before after result old new = MakesPrepared there (path_buf_bytes held.path) Same (Some held.rights) held.names after result old new
+MakesOver there backup false held before after result old new = MakesPrepared there (path_buf_bytes held.path) (places.This held.file) (Some held.rights) held.names after result old new
 MakesOver there backup true held before after result old new = IsErrAnd result (λ refusal. BacksUp {T = ⊤} backup held before (Err refusal) old new)
-    ⊎ ((mid : Log) × BacksUp {T = ⊤} backup held before (Ok tt) old mid × MakesPrepared there (path_buf_bytes held.path) Same (Some held.rights) held.names after result mid new)
+    ⊎ ((mid : Log) × BacksUp {T = ⊤} backup held before (Ok tt) old mid × MakesPrepared there (path_buf_bytes held.path) (places.This held.file) (Some held.rights) held.names after result mid new)
 
 -- where the bytes are the same nothing is done
 abbrev pub PreparesHeld : {F : Type 0} → HeldAt → HeldAt → Bool → Held → List ℕ → List ℕ → Result (Prepared F) NotReplaced → Log → Log → Type 0
@@ -180,6 +183,6 @@ IsForStream bytes it = ⊥
 -- A file is made beside the one that is there, whose rights it gets, or beside a path that has none. For a stream
 -- nothing is done.
 abbrev pub PreparesAt : {F : Type 0} → HeldAt → Destination → List ℕ → Result (Prepared F) NotReplaced → Log → Log → Type 0
-PreparesAt there (destinations.Existing held) bytes result old new = MakesPrepared there (path_buf_bytes held.path) Same (Some held.rights) held.names bytes result old new
-PreparesAt there (destinations.New it) bytes result old new = MakesPrepared there (path_buf_bytes it.path) Nothing None 1 bytes result old new
+PreparesAt there (destinations.Existing held) bytes result old new = MakesPrepared there (path_buf_bytes held.path) (places.This held.file) (Some held.rights) held.names bytes result old new
+PreparesAt there (destinations.New it) bytes result old new = MakesPrepared there (path_buf_bytes it.path) places.Nothing None 1 bytes result old new
 PreparesAt there (destinations.Stream stream) bytes result old new = IsOkAnd result (IsForStream bytes) × (new ≡ old)

@@ -8,3 +8,6 @@ pub mod Memory
 pub mod Held
 pub mod Opening
 pub mod Beneath
+pub mod Spot
+pub mod OnHost
+pub mod LeftBeside

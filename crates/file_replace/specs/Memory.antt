@@ -1,13 +1,15 @@
 -- A path in memory, as clauses see it.
-use Rattle.std.specs.Prelude.{◌≡◌, ⊤, Option, Some, None, Result, IsErr}
+use Rattle.std.specs.Prelude.{◌≡◌, [], ⊤, Option, Some, None, Result, IsErr}
 use Rattle.fork_disk.specs.Calls.{next_call}
 use Rattle.file_replace.specs.declared.calls.Noted.{Noted}
+use Rattle.file_replace.specs.declared.host_place.There.TheVariants.{Nothing}
 use Rattle.file_replace.specs.declared.mem_place.MemFile.{MemFile}
 use Rattle.file_replace.specs.declared.mem_place.MemPlace.{MemPlace}
 use Rattle.file_replace.specs.declared.place.PlainFile.{PlainFile}
 use Rattle.file_replace.specs.declared.rights.Owner.{Owner}
 use Rattle.file_replace.specs.Place.{Folder, History, Seen}
 use Rattle.file_replace.specs.OnPlace.{happened}
+use Rattle.file_replace.specs.Spot.{Spot}
 
 -- a file in memory, if there is one
 abbrev pub seen : Option MemFile → Option PlainFile
@@ -30,6 +32,10 @@ noted call beside past = happened call.call call.is_done (folder beside beside) 
 -- a place in memory, which is honest
 abbrev pub place_seen : MemPlace → Seen
 place_seen place = record { calls = place.made.events; files = folder place.path place.beside; history = place.log.events; is_honest = ⊤ }
+
+-- it is of no path of the host
+abbrev pub spot_in : MemPlace → Spot
+spot_in place = record { path = []; there = Nothing; folder = None; begun = [] }
 
 -- the next call of a place is the one that is to fail
 abbrev pub IsTurn : MemPlace → Type 0

@@ -4,14 +4,14 @@ use Rattle.std.specs.Path.{path_buf_bytes}
 use Rattle.std.specs.Global.{Global}
 use Rattle.std.specs.declared.fs.File.{File}
 use Rattle.std.specs.declared.path.buf.PathBuf.{PathBuf}
-use Rattle.host_paths.specs.Asked.{Log, is_regular, same_file}
+use Rattle.host_paths.specs.Asked.{Log, OnlyAsks, is_regular, same_file}
 use Rattle.host_paths.specs.Following.{Follows}
 use Rattle.host_paths.specs.declared.host.Access.TheVariants.{Both, Write}
 use Rattle.host_paths.specs.declared.host.Answer.TheVariants.{Is, Nothing}
 use Rattle.host_paths.specs.declared.host.Found.{Found}
 use Rattle.host_paths.specs.declared.host.HostCall.{HostCall}
 use Rattle.host_paths.specs.declared.host.HostCall.TheVariants.{At, Over, Of, Open, Lock}
-use Rattle.host_paths.specs.declared.host.Locking.TheVariants.{Taken, NotOffered}
+use Rattle.host_paths.specs.declared.host.Locking.TheVariants.{Taken, Busy, NotOffered}
 use Rattle.file_replace.specs.declared.calls.HeldCall.{HeldCall}
 use Rattle.file_replace.specs.declared.calls.HeldCall.TheVariants.{Asked}
 use Rattle.file_replace.specs.declared.destination.Destination.{Destination}
@@ -25,12 +25,15 @@ use Rattle.file_replace.specs.declared.told.NotReplaced.TheVariants as refusals
 abbrev pub Asks : (List HostCall → Type 0) → List HeldCall → List HeldCall → Type 0
 Asks P old new = (calls : List HostCall) × P calls × (new ≡ Asked calls ∷ old)
 
--- the path wasn't opened: no file was to be put yet
-abbrev pub IsUnopened : NotReplaced → Type 0
-IsUnopened (refusals.Stopped stop) = ⊥
-IsUnopened (refusals.NoBackup name stop) = ⊥
-IsUnopened (refusals.Stream error) = ⊥
-IsUnopened refusal = ⊤
+-- the path wasn't opened, so no file was to be put yet: another program has the lock, by the last call; it is no
+-- regular file, by the only one; or there is another cause
+abbrev pub IsUnopened : NotReplaced → Log → Type 0
+IsUnopened refusals.InUse new = (file : File) × (past : Log) × (new ≡ Lock file (Some Busy) ∷ past)
+IsUnopened refusals.NotAFile new = (path : List ℕ) × (found : Found) × (is_regular found.kind ≡ false) × (new ≡ Over path (Is found) ∷ [])
+IsUnopened (refusals.Stopped stop) new = ⊥
+IsUnopened (refusals.NoBackup name stop) new = ⊥
+IsUnopened (refusals.Stream error) new = ⊥
+IsUnopened refusal new = ⊤
 
 -- a file was locked, or its file system has no locks
 abbrev pub IsLocked : File → Log → Log → Type 0
@@ -57,7 +60,7 @@ Holds path held found old new = (followed : Log) × (mid : Log) × Follows path 
 -- a path was asked for, and the regular file that it led to is held
 abbrev pub OpensHeld : List ℕ → Result Held NotReplaced → Log → Type 0
 OpensHeld path (Ok held) new = (found : Found) × (is_regular found.kind ≡ true) × Holds path held found (Over path (Is found) ∷ []) new
-OpensHeld path (Err refusal) new = IsUnopened refusal
+OpensHeld path (Err refusal) new = IsUnopened refusal new × OnlyAsks new
 
 -- what was opened isn't a regular file
 abbrev pub IsStream : List ℕ → File → Log → Log → Type 0
@@ -73,4 +76,4 @@ IsOpened path found (destinations.New it) old new = ⊥
 abbrev pub OpensAs : List ℕ → Result Destination NotReplaced → Log → Type 0
 OpensAs path (Ok (destinations.New it)) new = Follows path (path_buf_bytes it.path) (Over path Nothing ∷ []) new
 OpensAs path (Ok destination) new = (found : Found) × IsOpened path found destination (Over path (Is found) ∷ []) new
-OpensAs path (Err refusal) new = IsUnopened refusal
+OpensAs path (Err refusal) new = IsUnopened refusal new × OnlyAsks new

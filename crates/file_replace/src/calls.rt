@@ -1,6 +1,7 @@
 //! The calls that were made at a path of the host, for clauses alone.
 
-ghost use Rattle.std.specs.Prelude.{◌≡◌, ◌∷◌};
+ghost use Rattle.std.specs.Prelude.{◌≡◌, [], ◌∷◌};
+ghost use Rattle.host_paths.specs.declared.host.HostCall.TheVariants as host;
 ghost use Rattle.file_replace.specs.declared.calls.HeldCall.TheVariants.{Asked, OpenFolder, Put, Stream};
 
 use crate::place::FolderSync;
@@ -8,6 +9,7 @@ use crate::rights::Owner;
 use fork_disk::Record;
 use host_paths::{HostCall, HostCalls};
 use std::collections::LinkedList;
+use std::fs::File;
 
 /// A call of the system at a path, or on the file beside it.
 #[derive(Clone, Copy)]
@@ -90,8 +92,15 @@ pub(crate) fn note_asked(log: &mut HeldCalls, asked: &HostCalls)
     *log = Record::of_events_beside(log, asked, &());
 }
 
-/// Notes what was to be written to a stream.
-pub(crate) fn note_stream(log: &mut HeldCalls, is_done: bool, bytes: &[u8])
+/// Notes what was to be written to a stream, by this call of the host.
+pub(crate) fn note_stream(
+    log: &mut HeldCalls,
+    is_done: bool,
+    _file: &File,
+    bytes: &[u8],
+    _calls: &HostCalls,
+)
+    requires { _calls.now.events ≡ host.Write _file.now bytes.now is_done ∷ [] }
     ensures { log.new.events ≡ Stream is_done bytes.now ∷ log.old.events }
 {
     *log = Record::of_events_beside(log, &is_done, &bytes);

@@ -2,9 +2,9 @@
 
 ghost use Rattle.std.specs.Prelude.{◌≡◌, [], IfErr, IfOk, None, Some};
 ghost use Rattle.std.specs.Path.{path_buf_bytes};
+ghost use Rattle.host_paths.specs.Asked.{KeepsAsking};
 ghost use Rattle.file_replace.specs.Held.{BacksUp, MakesOver, MakesPrepared, PreparesAt, PreparesHeld, backup_name};
 ghost use Rattle.file_replace.specs.Opening.{Asks, IsOpened, IsStream, IsUnopened, OpensAs};
-ghost use Rattle.file_replace.specs.declared.calls.Wanted.TheVariants.{Nothing, Same};
 
 use crate::calls::{HeldCalls, note_asked};
 use crate::held::{Held, unopened};
@@ -43,7 +43,8 @@ pub struct OpenStream {
 /// Opens what is no regular file. Nothing is made or emptied. What it is is asked of what was opened.
 fn open_stream(rt: &HostRuntime, path: &str, asked: &mut HostCalls) -> Result<File, NotReplaced>
     ensures stream { IfOk result (λ file. IsStream path.now file asked.old.events asked.new.events) }
-    ensures refuses { IfErr result IsUnopened }
+    ensures refuses { IfErr result (λ refusal. IsUnopened refusal asked.new.events) }
+    ensures asks { KeepsAsking asked.old.events asked.new.events }
 {
     let file = match open(rt, path, Access::Write, asked) {
         Ok(file) => file,
@@ -99,7 +100,8 @@ impl Destination {
         asked: &mut HostCalls,
     ) -> Result<Destination, NotReplaced>
         ensures opened { IfOk result (λ destination. IsOpened path.now found.now destination asked.old.events asked.new.events) }
-        ensures refuses { IfErr result IsUnopened }
+        ensures refuses { IfErr result (λ refusal. IsUnopened refusal asked.new.events) }
+        ensures asks { KeepsAsking asked.old.events asked.new.events }
     {
         if found.is_regular() {
             match Held::open_found(rt, path, found, asked) {
@@ -141,7 +143,7 @@ impl NewPath {
         bytes: &[u8],
         log: &mut HeldCalls,
     ) -> Result<Prepared<'a, F>, NotReplaced>
-        ensures { MakesPrepared F.held (path_buf_bytes self.path) Nothing None 1 bytes.now result log.old.events log.new.events }
+        ensures { MakesPrepared F.held (path_buf_bytes self.path) There.Nothing None 1 bytes.now result log.old.events log.new.events }
     {
         match NewFile::prepare(rt, self.path, There::Nothing, bytes, None, 1, log) {
             Ok(file) => Ok(Prepared::File(file)),
@@ -222,7 +224,7 @@ impl Held {
         bytes: &[u8],
         log: &mut HeldCalls,
     ) -> Result<Prepared<'a, F>, NotReplaced>
-        ensures { MakesPrepared F.held (path_buf_bytes self.path) Same (Some self.rights) self.names bytes.now result log.old.events log.new.events }
+        ensures { MakesPrepared F.held (path_buf_bytes self.path) (There.This self.file) (Some self.rights) self.names bytes.now result log.old.events log.new.events }
     {
         let Held {
             file,

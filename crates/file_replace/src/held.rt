@@ -1,6 +1,8 @@
 //! A file that is open and locked, to be replaced.
 
-ghost use Rattle.std.specs.Prelude.{◌≡◌, [], IfErr, IfOk, OnOk};
+ghost use Rattle.std.specs.Prelude.{◌≡◌, List, [], IfErr, IfOk, OnOk};
+ghost use Rattle.host_paths.specs.Asked.{KeepsAsking};
+ghost use Rattle.host_paths.specs.declared.host.HostCall.{HostCall};
 ghost use Rattle.file_replace.specs.Opening.{Asks, Holds, IsLocked, IsOwn, IsUnopened, OpensHeld, is_one, rights_of};
 
 use crate::calls::{HeldCalls, note_asked};
@@ -25,7 +27,7 @@ pub struct Held {
 
 /// Why a file that can't be opened isn't changed.
 pub(crate) fn unopened(error: io::Error) -> NotReplaced
-    ensures { IsUnopened result }
+    ensures { (calls : List HostCall) → IsUnopened result calls }
 {
     if error.kind() == ErrorKind::OutOfMemory {
         NotReplaced::HostFull
@@ -37,7 +39,8 @@ pub(crate) fn unopened(error: io::Error) -> NotReplaced
 /// Locks a file against others that do so. Where the file system has no locks, there is none.
 fn lock_it(file: &File, asked: &mut HostCalls) -> Result<(), NotReplaced>
     ensures locked { OnOk result (IsLocked file.now asked.old.events asked.new.events) }
-    ensures refuses { IfErr result IsUnopened }
+    ensures refuses { IfErr result (λ refusal. IsUnopened refusal asked.new.events) }
+    ensures asks { KeepsAsking asked.old.events asked.new.events }
 {
     match lock(file, asked) {
         Ok(Locking::Taken) | Ok(Locking::NotOffered) => Ok(()),
@@ -84,8 +87,13 @@ impl Held {
         ensures { asked.old.events ≡ [] → OpensHeld path.now result asked.new.events }
     {
         match found_over(rt, path, asked) {
-            Ok(Some(found)) if found.is_regular() => Held::open_found(rt, path, &found, asked),
-            Ok(Some(_)) => Err(NotReplaced::NotAFile),
+            Ok(Some(found)) => {
+                if found.is_regular() {
+                    Held::open_found(rt, path, &found, asked)
+                } else {
+                    Err(NotReplaced::NotAFile)
+                }
+            }
             Ok(None) => Err(NotReplaced::Open(ErrorKind::NotFound.into())),
             Err(error) => Err(unopened(error)),
         }
@@ -99,7 +107,8 @@ impl Held {
         asked: &mut HostCalls,
     ) -> Result<Held, NotReplaced>
         ensures holds { IfOk result (λ held. Holds path.now held found.now asked.old.events asked.new.events) }
-        ensures refuses { IfErr result IsUnopened }
+        ensures refuses { IfErr result (λ refusal. IsUnopened refusal asked.new.events) }
+        ensures asks { KeepsAsking asked.old.events asked.new.events }
     {
         let path = match follow(rt, path, asked) {
             Ok(path) => path,
@@ -124,7 +133,8 @@ impl Held {
         asked: &mut HostCalls,
     ) -> Result<Held, NotReplaced>
         ensures own { IfOk result (λ held. IsOwn held path file found.now asked.old.events asked.new.events) }
-        ensures refuses { IfErr result IsUnopened }
+        ensures refuses { IfErr result (λ refusal. IsUnopened refusal asked.new.events) }
+        ensures asks { KeepsAsking asked.old.events asked.new.events }
     {
         let here = match found_of(&file, asked) {
             Ok(here) => here,

@@ -3,31 +3,32 @@
 ghost use Rattle.std.specs.Prelude.{◌≡◌, [], ◌∷◌, true, is_ok, is_some, IfErr, IfOk, OnOk};
 ghost use Rattle.std.specs.Path.{path_buf_bytes};
 ghost use Rattle.fork_disk.specs.Disk.{Counts};
-ghost use Rattle.file_replace.specs.Beneath.{Has, MakesIt, OpensFolder, RemovesIt, RenamesIt, SyncsFolder};
+ghost use Rattle.file_replace.specs.Beneath.{Gives, GivesIt, Has, MakesIt, OpensFolder, RemovesIt, RenamesIt, SetsMode, SyncsFolder, SyncsIt, WritesIt};
 ghost use Rattle.file_replace.specs.Calls.{seen_at};
-ghost use Rattle.file_replace.specs.OnPlace.{Does, told};
+ghost use Rattle.file_replace.specs.LeftBeside.{IsMadeLeft};
+ghost use Rattle.file_replace.specs.OnHost.{IsSpot, spot_of};
+ghost use Rattle.file_replace.specs.OnPlace.{Does, now_of, told};
 ghost use Rattle.file_replace.specs.Place.{IsClear};
 ghost use Rattle.file_replace.specs.declared.calls.Call.TheVariants as calls;
 ghost use Rattle.file_replace.specs.Held.{wanted_of};
-ghost use Rattle.file_replace.specs.declared.calls.HeldCall.TheVariants.{OpenFolder};
+ghost use Rattle.file_replace.specs.declared.calls.HeldCall.TheVariants.{OpenFolder, Put};
 ghost use Rattle.host_paths.specs.Asked.{folder_name};
 ghost use Rattle.host_paths.specs.declared.host.Access.TheVariants.{Read};
 ghost use Rattle.host_paths.specs.declared.host.HostCall.TheVariants.{Open};
 
-use crate::calls::{Call, HeldCalls, Noted, PlaceCalls, Wanted, note, note_folder};
+use crate::calls::{Call, HeldCalls, Noted, PlaceCalls, Wanted, note, note_at, note_folder};
 use crate::place::{FolderSync, Replaces};
 use crate::rights::Owner;
 use crate::world::FolderWorld;
 use fork_disk::Record;
 use host_paths::{
-    Access, Beside, HostCalls, Syncing, folder_name, found_at, found_of, leads_to, longest_file,
-    open, sync, write_whole,
+    Access, Beside, HostCalls, Syncing, folder_name, found_at, found_of, give, leads_to,
+    longest_file, open, set_mode, sync, sync_file, write_whole,
 };
-use std::fs::{File, Permissions};
+use std::fs::File;
 use std::io;
 use std::io::ErrorKind;
 use std::marker::PhantomData;
-use std::os::unix::fs::{PermissionsExt, fchown};
 use std::path::PathBuf;
 
 /// What a path has to have when a file is renamed to it.
@@ -51,6 +52,8 @@ pub struct FileReplacer<'a, W: FolderWorld> {
     there: There,
     /// None where the folder can't be read, so that it can't be synced.
     folder: Option<File>,
+    /// The calls by which it was opened.
+    begun: HostCalls,
     beside: Option<Beside<'a>>,
     failures: u64,
     log: PlaceCalls,
@@ -71,15 +74,19 @@ fn open_folder(rt: &HostRuntime, path: &PathBuf, asked: &mut HostCalls) -> io::R
 }
 
 /// Gives a file an owner and a group, or else the group alone, and returns those that it has then.
-fn give(file: &File, owner: Owner) -> io::Result<Owner> {
-    if fchown(file, Some(owner.user), Some(owner.group)).is_err() {
-        let _ = fchown(file, None, Some(owner.group));
+fn give_to(file: &File, owner: Owner, asked: &mut HostCalls) -> io::Result<Owner>
+    ensures { Gives file.now owner result asked.old.events asked.new.events }
+{
+    if give(file, Some(owner.user), owner.group, asked).is_err() {
+        let _ = give(file, None, owner.group, asked);
     }
-    let found = found_of(file, &mut HostCalls::new())?;
-    Ok(Owner {
-        user: found.user,
-        group: found.group,
-    })
+    match found_of(file, asked) {
+        Ok(found) => Ok(Owner {
+            user: found.user,
+            group: found.group,
+        }),
+        Err(error) => Err(error),
+    }
 }
 
 /// What a path has to have, as it is noted.
@@ -115,9 +122,7 @@ impl<'a, W: FolderWorld> FileReplacer<'a, W> {
         log: &mut HeldCalls,
     ) -> io::Result<FileReplacer<'a, W>>
         ensures start { IfOk result (λ place. place.log.events ≡ []) }
-        ensures path { IfOk result (λ place. path_buf_bytes place.path ≡ path_buf_bytes path.now) }
-        ensures there { IfOk result (λ place. place.there ≡ there) }
-        ensures folder { IfOk result (λ place. OpensFolder (path_buf_bytes path.now) place.folder place.asked.events) }
+        ensures spot { IfOk result (λ place. IsSpot (path_buf_bytes path.now) there (spot_of place)) }
         ensures opens { log.new.events ≡ OpenFolder (wanted_of there) (is_ok result) ∷ log.old.events }
     {
         let wanted = wanted_of(&there);
@@ -129,37 +134,41 @@ impl<'a, W: FolderWorld> FileReplacer<'a, W> {
     /// The place of a path, whose folder is opened.
     fn opened(rt: &'a HostRuntime, path: &PathBuf, there: There) -> io::Result<FileReplacer<'a, W>>
         ensures start { IfOk result (λ place. place.log.events ≡ []) }
-        ensures path { IfOk result (λ place. path_buf_bytes place.path ≡ path_buf_bytes path.now) }
-        ensures there { IfOk result (λ place. place.there ≡ there) }
-        ensures folder { IfOk result (λ place. OpensFolder (path_buf_bytes path.now) place.folder place.asked.events) }
+        ensures spot { IfOk result (λ place. IsSpot (path_buf_bytes path.now) there (spot_of place)) }
     {
-        let mut asked = HostCalls::new();
-        let folder = open_folder(rt, path, &mut asked)?;
+        let mut begun = HostCalls::new();
+        let folder = open_folder(rt, path, &mut begun)?;
         Ok(FileReplacer {
             rt,
             folder,
+            begun,
             path: PathBuf::from_str(rt.alloc(), path.as_str())?,
             there,
             beside: None,
             failures: 0,
             log: Record::new(),
-            asked,
+            asked: HostCalls::new(),
             world: PhantomData,
         })
     }
 
-    /// The calls that were made there.
-    pub fn calls(&self) -> &PlaceCalls
-        ensures { result.now ≡ self.now.log }
+    /// Notes the calls that were made there.
+    pub(crate) fn note_put(&self, log: &mut HeldCalls)
+        ensures { log.new.events ≡ Put (path_buf_bytes self.now.path) self.now.log.events ∷ log.old.events }
     {
-        &self.log
+        note_at(log, self.path.as_str(), &self.log);
     }
 
     /// The path of the file that was made beside and neither renamed nor removed, if there is one. It stays there.
     pub fn into_left(self) -> Option<PathBuf>
-        ensures { is_some result ≡ is_some self.entry.beside }
+        ensures some { is_some result ≡ is_some self.entry.beside }
+        ensures made { IsMadeLeft result }
     {
-        self.beside.map(Beside::into_path)
+        let FileReplacer { beside, .. } = self;
+        match beside {
+            Some(beside) => Some(beside.into_path()),
+            None => None,
+        }
     }
 
     /// The file beside is renamed or removed.
@@ -182,6 +191,7 @@ impl<'a, W: FolderWorld> FileReplacer<'a, W> {
         ensures same { result ≡ answer }
         ensures beside { self.new.beside ≡ self.old.beside }
         ensures asked { self.new.asked ≡ self.old.asked }
+        ensures stays { spot_of self.new ≡ spot_of self.old }
         ensures noted { self.new.log.events ≡ (record { call = call; is_done = is_ok answer }, bytes.now) ∷ self.old.log.events }
     {
         let is_done = answer.is_ok();
@@ -216,11 +226,14 @@ impl<'a, W: FolderWorld> Replaces for FileReplacer<'a, W> {
 
     ghost failures = { λ place. place.failures };
 
+    ghost spot = { spot_of };
+
     fn create(&mut self, is_private: bool) -> io::Result<()>
         requires { IsClear (seen_at W.held self.old.log.events) }
         ensures creates { Does (calls.Create is_private) (is_ok result) [] (seen_at W.held self.old.log.events) (seen_at W.held self.new.log.events) }
         ensures cause { Counts self.old.failures self.new.failures result }
-        ensures made { MakesIt (path_buf_bytes self.old.path) is_private self.new.beside result self.new.asked.events }
+        ensures stays { spot_of self.new ≡ spot_of self.old }
+        ensures made { MakesIt (path_buf_bytes self.old.path) is_private self.new.beside result self.old.asked.events self.new.asked.events }
     {
         let answer = match Beside::make(self.rt, &self.path, is_private, &mut self.asked) {
             Ok(beside) => {
@@ -232,17 +245,28 @@ impl<'a, W: FolderWorld> Replaces for FileReplacer<'a, W> {
         self.answered(Call::Create(is_private), &[], answer)
     }
 
-    fn write(&mut self, bytes: &[u8]) -> io::Result<()> {
-        let answer = match &mut self.beside {
-            Some(beside) => write_whole(beside.file(), bytes, longest_file(self.rt)),
+    fn write(&mut self, bytes: &[u8]) -> io::Result<()>
+        ensures writes { Does calls.Write (is_ok result) bytes.now (seen_at W.held self.old.log.events) (seen_at W.held self.new.log.events) }
+        ensures cause { Counts self.old.failures self.new.failures result }
+        ensures stays { spot_of self.new ≡ spot_of self.old }
+        ensures written { WritesIt self.old.beside bytes.now result self.old.asked.events self.new.asked.events }
+    {
+        let longest = longest_file(self.rt);
+        let answer = match &self.beside {
+            Some(beside) => write_whole(beside.file(), bytes, longest, &mut self.asked),
             None => Err(ErrorKind::NotFound.into()),
         };
         self.answered(Call::Write, bytes, answer)
     }
 
-    fn set_owner(&mut self, owner: Owner) -> io::Result<Owner> {
-        let answer = match &mut self.beside {
-            Some(beside) => give(beside.file(), owner),
+    fn set_owner(&mut self, owner: Owner) -> io::Result<Owner>
+        ensures sets { Does (calls.SetOwner owner (now_of owner result)) (is_ok result) [] (seen_at W.held self.old.log.events) (seen_at W.held self.new.log.events) }
+        ensures cause { Counts self.old.failures self.new.failures result }
+        ensures stays { spot_of self.new ≡ spot_of self.old }
+        ensures given { GivesIt self.old.beside owner result self.old.asked.events self.new.asked.events }
+    {
+        let answer = match &self.beside {
+            Some(beside) => give_to(beside.file(), owner, &mut self.asked),
             None => Err(ErrorKind::NotFound.into()),
         };
         let now = match &answer {
@@ -252,17 +276,27 @@ impl<'a, W: FolderWorld> Replaces for FileReplacer<'a, W> {
         self.answered(Call::SetOwner(owner, now), &[], answer)
     }
 
-    fn set_mode(&mut self, mode: u32) -> io::Result<()> {
-        let answer = match &mut self.beside {
-            Some(beside) => beside.file().set_permissions(Permissions::from_mode(mode)),
+    fn set_mode(&mut self, mode: u32) -> io::Result<()>
+        ensures sets { Does (calls.SetMode mode) (is_ok result) [] (seen_at W.held self.old.log.events) (seen_at W.held self.new.log.events) }
+        ensures cause { Counts self.old.failures self.new.failures result }
+        ensures stays { spot_of self.new ≡ spot_of self.old }
+        ensures set { SetsMode self.old.beside mode result self.old.asked.events self.new.asked.events }
+    {
+        let answer = match &self.beside {
+            Some(beside) => set_mode(beside.file(), mode, &mut self.asked),
             None => Err(ErrorKind::NotFound.into()),
         };
         self.answered(Call::SetMode(mode), &[], answer)
     }
 
-    fn sync(&mut self) -> io::Result<()> {
-        let answer = match &mut self.beside {
-            Some(beside) => beside.file().sync_all(),
+    fn sync(&mut self) -> io::Result<()>
+        ensures syncs { Does calls.Sync (is_ok result) [] (seen_at W.held self.old.log.events) (seen_at W.held self.new.log.events) }
+        ensures cause { Counts self.old.failures self.new.failures result }
+        ensures stays { spot_of self.new ≡ spot_of self.old }
+        ensures synced { SyncsIt self.old.beside result self.old.asked.events self.new.asked.events }
+    {
+        let answer = match &self.beside {
+            Some(beside) => sync_file(beside.file(), &mut self.asked),
             None => Err(ErrorKind::NotFound.into()),
         };
         self.answered(Call::Sync, &[], answer)
@@ -271,6 +305,7 @@ impl<'a, W: FolderWorld> Replaces for FileReplacer<'a, W> {
     fn check(&mut self) -> io::Result<()>
         ensures checks { Does calls.Check (is_ok result) [] (seen_at W.held self.old.log.events) (seen_at W.held self.new.log.events) }
         ensures cause { Counts self.old.failures self.new.failures result }
+        ensures stays { spot_of self.new ≡ spot_of self.old }
         ensures asked { OnOk result (Has self.old.there (path_buf_bytes self.old.path) true self.old.asked.events self.new.asked.events) }
     {
         let answer = match has(self.rt, self.path.as_str(), &self.there, &mut self.asked) {
@@ -284,6 +319,7 @@ impl<'a, W: FolderWorld> Replaces for FileReplacer<'a, W> {
     fn rename(&mut self) -> io::Result<()>
         ensures renames { Does calls.Rename (is_ok result) [] (seen_at W.held self.old.log.events) (seen_at W.held self.new.log.events) }
         ensures cause { Counts self.old.failures self.new.failures result }
+        ensures stays { spot_of self.new ≡ spot_of self.old }
         ensures renamed { RenamesIt self.old.beside (path_buf_bytes self.old.path) result self.old.asked.events self.new.asked.events }
     {
         let answer = match &self.beside {
@@ -299,6 +335,7 @@ impl<'a, W: FolderWorld> Replaces for FileReplacer<'a, W> {
     fn sync_folder(&mut self) -> io::Result<FolderSync>
         ensures syncs { Does (calls.SyncFolder (told result)) (is_ok result) [] (seen_at W.held self.old.log.events) (seen_at W.held self.new.log.events) }
         ensures cause { Counts self.old.failures self.new.failures result }
+        ensures stays { spot_of self.new ≡ spot_of self.old }
         ensures folder { SyncsFolder self.old.folder result self.old.asked.events self.new.asked.events }
     {
         let answer = sync_offered(&self.folder, &mut self.asked);
@@ -313,6 +350,7 @@ impl<'a, W: FolderWorld> Replaces for FileReplacer<'a, W> {
         ensures removes { Does calls.Remove (is_ok result) [] (seen_at W.held self.old.log.events) (seen_at W.held self.new.log.events) }
         ensures left { IfErr result (λ _. is_some self.new.beside ≡ true) }
         ensures cause { Counts self.old.failures self.new.failures result }
+        ensures stays { spot_of self.new ≡ spot_of self.old }
         ensures removed { RemovesIt self.old.beside result self.old.asked.events self.new.asked.events }
     {
         let answer = match &self.beside {

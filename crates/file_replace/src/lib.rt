@@ -13,6 +13,7 @@ mod place;
 mod prepared;
 mod replacement;
 mod rights;
+mod stop;
 mod told;
 mod world;
 
@@ -27,5 +28,6 @@ pub use place::{Event, FolderSync, PlainFile, Replaces};
 pub use prepared::{Difference, Losses, NewFile, NotBoth, Outcome, Prepared, Stream, put_both};
 pub use replacement::{Fault, Step, prepare, put, replace};
 pub use rights::{Owner, Rights, mode_for};
-pub use told::{NotReplaced, Stop};
+pub use stop::Stop;
+pub use told::NotReplaced;
 pub use world::{FolderWorld, UnknownFolder};

@@ -5,7 +5,7 @@ ghost use Rattle.fork_disk.specs.Calls.{next_call};
 ghost use Rattle.fork_disk.specs.Disk.{Counts};
 ghost use Rattle.file_replace.specs.Place.{IsClear};
 ghost use Rattle.file_replace.specs.OnPlace.{answered, now_of, told, Does};
-ghost use Rattle.file_replace.specs.Memory.{seen, with_owner, noted, place_seen, CountsCall, IsTurn};
+ghost use Rattle.file_replace.specs.Memory.{seen, with_owner, noted, place_seen, spot_in, CountsCall, IsTurn};
 ghost use Rattle.file_replace.specs.declared.calls.Call.TheVariants as calls;
 ghost use Rattle.file_replace.specs.declared.place.Event.TheVariants.{Found};
 
@@ -172,10 +172,13 @@ impl Replaces for MemPlace {
 
     ghost failures = { λ place. place.failures };
 
+    ghost spot = { spot_in };
+
     fn create(&mut self, is_private: bool) -> Result<(), DiskFault>
         requires { IsClear (place_seen self.old) }
         ensures creates { Does (calls.Create is_private) (is_ok result) [] (place_seen self.old) (place_seen self.new) }
         ensures cause { Counts self.old.failures self.new.failures result }
+        ensures stays { spot_in self.new ≡ spot_in self.old }
         ensures counted { CountsCall self.old self.new result }
         ensures kept { IsTurn self.old → (self.new.path ≡ self.old.path) × (self.new.beside ≡ self.old.beside) }
     {
@@ -193,6 +196,7 @@ impl Replaces for MemPlace {
     fn write(&mut self, bytes: &[u8]) -> Result<(), DiskFault>
         ensures writes { Does calls.Write (is_ok result) bytes.now (place_seen self.old) (place_seen self.new) }
         ensures cause { Counts self.old.failures self.new.failures result }
+        ensures stays { spot_in self.new ≡ spot_in self.old }
         ensures counted { CountsCall self.old self.new result }
         ensures path { self.new.path ≡ self.old.path }
     {
@@ -212,6 +216,7 @@ impl Replaces for MemPlace {
     fn set_owner(&mut self, owner: Owner) -> Result<Owner, DiskFault>
         ensures sets { Does (calls.SetOwner owner (now_of owner result)) (is_ok result) [] (place_seen self.old) (place_seen self.new) }
         ensures cause { Counts self.old.failures self.new.failures result }
+        ensures stays { spot_in self.new ≡ spot_in self.old }
         ensures counted { CountsCall self.old self.new result }
         ensures kept { IsTurn self.old → (self.new.path ≡ self.old.path) × (self.new.beside ≡ self.old.beside) }
     {
@@ -226,6 +231,7 @@ impl Replaces for MemPlace {
     fn set_mode(&mut self, mode: u32) -> Result<(), DiskFault>
         ensures sets { Does (calls.SetMode mode) (is_ok result) [] (place_seen self.old) (place_seen self.new) }
         ensures cause { Counts self.old.failures self.new.failures result }
+        ensures stays { spot_in self.new ≡ spot_in self.old }
         ensures counted { CountsCall self.old self.new result }
         ensures kept { IsTurn self.old → (self.new.path ≡ self.old.path) × (self.new.beside ≡ self.old.beside) }
     {
@@ -241,6 +247,7 @@ impl Replaces for MemPlace {
     fn sync(&mut self) -> Result<(), DiskFault>
         ensures syncs { Does calls.Sync (is_ok result) [] (place_seen self.old) (place_seen self.new) }
         ensures cause { Counts self.old.failures self.new.failures result }
+        ensures stays { spot_in self.new ≡ spot_in self.old }
         ensures counted { CountsCall self.old self.new result }
         ensures kept { IsTurn self.old → (self.new.path ≡ self.old.path) × (self.new.beside ≡ self.old.beside) }
     {
@@ -251,6 +258,7 @@ impl Replaces for MemPlace {
     fn check(&mut self) -> Result<(), DiskFault>
         ensures checks { Does calls.Check (is_ok result) [] (place_seen self.old) (place_seen self.new) }
         ensures cause { Counts self.old.failures self.new.failures result }
+        ensures stays { spot_in self.new ≡ spot_in self.old }
         ensures counted { CountsCall self.old self.new result }
         ensures kept { IsTurn self.old → (self.new.path ≡ self.old.path) × (self.new.beside ≡ self.old.beside) }
     {
@@ -261,6 +269,7 @@ impl Replaces for MemPlace {
     fn rename(&mut self) -> Result<(), DiskFault>
         ensures renames { Does calls.Rename (is_ok result) [] (place_seen self.old) (place_seen self.new) }
         ensures cause { Counts self.old.failures self.new.failures result }
+        ensures stays { spot_in self.new ≡ spot_in self.old }
         ensures counted { CountsCall self.old self.new result }
         ensures kept { IsTurn self.old → (self.new.path ≡ self.old.path) × (self.new.beside ≡ self.old.beside) }
     {
@@ -274,6 +283,7 @@ impl Replaces for MemPlace {
     fn sync_folder(&mut self) -> Result<FolderSync, DiskFault>
         ensures syncs { Does (calls.SyncFolder (told result)) (is_ok result) [] (place_seen self.old) (place_seen self.new) }
         ensures cause { Counts self.old.failures self.new.failures result }
+        ensures stays { spot_in self.new ≡ spot_in self.old }
         ensures counted { CountsCall self.old self.new result }
         ensures kept { IsTurn self.old → (self.new.path ≡ self.old.path) × (self.new.beside ≡ self.old.beside) }
     {
@@ -291,6 +301,7 @@ impl Replaces for MemPlace {
         ensures removes { Does calls.Remove (is_ok result) [] (place_seen self.old) (place_seen self.new) }
         ensures left { IfErr result (λ _. true ≡ true) }
         ensures cause { Counts self.old.failures self.new.failures result }
+        ensures stays { spot_in self.new ≡ spot_in self.old }
         ensures counted { CountsCall self.old self.new result }
         ensures kept { IsTurn self.old → (self.new.path ≡ self.old.path) × (self.new.beside ≡ self.old.beside) }
     {

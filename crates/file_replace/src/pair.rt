@@ -1,5 +1,6 @@
 //! Two files that were prepared are put one after the other.
 
+ghost use Rattle.std.specs.Prelude.{◌≡◌};
 ghost use Rattle.file_replace.specs.Pair.{CallsOfBoth, CausesOf, IfBothHonest, LeftOfBoth, PutsBoth};
 
 use crate::place::{FolderSync, Replaces};
@@ -25,6 +26,8 @@ pub fn put_both<R: Replaces, S: Replaces>(
     ensures puts { IfBothHonest (PutsBoth result (R.seen first.old) (R.seen first.new) (S.seen second.old) (S.seen second.new)) (R.seen first.old) (R.seen first.new) (S.seen second.old) (S.seen second.new) }
     ensures cause { CausesOf result (R.failures first.old) (R.failures first.new) (S.failures second.old) (S.failures second.new) }
     ensures left { LeftOfBoth result (R.may_leave first.new) (S.may_leave second.new) }
+    ensures stays_first { R.spot first.new ≡ R.spot first.old }
+    ensures stays_second { S.spot second.new ≡ S.spot second.old }
 {
     match put(first) {
         Ok(answer) => match put(second) {

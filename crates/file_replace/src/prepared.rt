@@ -5,20 +5,22 @@ ghost use Rattle.std.specs.Path.{path_buf_bytes};
 ghost use Rattle.file_replace.specs.declared.calls.HeldCall.TheVariants as HeldCall;
 ghost use Rattle.file_replace.specs.declared.calls.HeldCall.TheVariants.{Put};
 ghost use Rattle.file_replace.specs.declared.replacement.Step.TheVariants.{Create};
+ghost use Rattle.file_replace.specs.LeftBeside.{IsMadeLeft};
 ghost use Rattle.file_replace.specs.Pair.{LeftOfBoth};
-ghost use Rattle.file_replace.specs.Held.{EndsBoth, GivesUp, GivesUpPrepared, MakesFile, PutsFile, PutsFiles, PutsInTurn, PutsOver, PutsPrepared, PutsTwo, difference, fault_of, losses_by, prepared_losses, wanted_of};
+ghost use Rattle.file_replace.specs.Held.{EndsBoth, GivesUp, GivesUpPrepared, MakesFile, PutsFile, PutsFiles, PutsInTurn, PutsOver, PutsPrepared, PutsTwo, difference, fault_of, losses_by, prepared_losses};
 
-use crate::calls::{HeldCalls, PlaceCalls, note_at, note_stream};
+use crate::calls::{HeldCalls, note_stream};
 use crate::host_place::{FileReplacer, There};
 use crate::pair::{PairFault, put_both as put_both_places};
 use crate::place::{FolderSync, Replaces};
 use crate::replacement::{Fault, Step, prepare, put, replace};
 use crate::rights::{Owner, Rights};
-use crate::told::{NotReplaced, Stop, put_left};
+use crate::stop::Stop;
+use crate::told::{NotReplaced, put_left};
 use crate::world::FolderWorld;
+use host_paths::{HostCalls, write_whole};
 use std::fmt::{Display, Formatter};
 use std::fs::File;
-use std::io::Write;
 use std::path::PathBuf;
 use std::{fmt, io};
 
@@ -72,7 +74,6 @@ impl Losses {
 /// A new file that lies beside its path, whole, synced, with its owner and its mode.
 #[derive(Drop)]
 pub struct NewFile<'a, F: FolderWorld> {
-    pub(crate) path: PathBuf,
     pub(crate) place: FileReplacer<'a, F>,
     pub(crate) losses: Losses,
 }
@@ -111,7 +112,8 @@ fn shut(error: io::Error) -> Stop
 /// The path of the file that is left beside a place, where one is.
 fn left_of<F: FolderWorld>(place: FileReplacer<'_, F>, is_left: bool) -> Option<PathBuf>
     requires { is_left ≡ true → is_some place.beside ≡ true }
-    ensures { is_some result ≡ is_left }
+    ensures some { is_some result ≡ is_left }
+    ensures made { IsMadeLeft result }
 {
     if is_left { place.into_left() } else { None }
 }
@@ -158,7 +160,7 @@ impl<'a, F: FolderWorld> NewFile<'a, F> {
         names: u64,
         log: &mut HeldCalls,
     ) -> Result<NewFile<'a, F>, Stop>
-        ensures { MakesFile F.held (path_buf_bytes path) (wanted_of there) old names bytes.now result log.old.events log.new.events }
+        ensures { MakesFile F.held (path_buf_bytes path) there old names bytes.now result log.old.events log.new.events }
     {
         let mut place = match FileReplacer::<F>::new(rt, &path, there, log) {
             Ok(place) => place,
@@ -166,12 +168,11 @@ impl<'a, F: FolderWorld> NewFile<'a, F> {
         };
         match prepare(&mut place, bytes, old) {
             Ok(now) => Ok(NewFile {
-                path,
                 place,
                 losses: losses_of(old, names, now),
             }),
             Err(fault) => {
-                note_at(log, path.as_str(), place.calls());
+                place.note_put(log);
                 Err(stopped(place, fault))
             }
         }
@@ -181,13 +182,9 @@ impl<'a, F: FolderWorld> NewFile<'a, F> {
     pub(crate) fn put(self, log: &mut HeldCalls) -> Result<FolderSync, Stop>
         ensures { PutsFile F.held self.entry result log.old.events log.new.events }
     {
-        let NewFile {
-            path,
-            mut place,
-            ..
-        } = self;
+        let NewFile { mut place, .. } = self;
         let done = put(&mut place);
-        note_at(log, path.as_str(), place.calls());
+        place.note_put(log);
         match done {
             Ok(answer) => Ok(answer),
             Err(fault) => Err(stopped(place, fault)),
@@ -198,13 +195,9 @@ impl<'a, F: FolderWorld> NewFile<'a, F> {
     fn give_up(self, log: &mut HeldCalls) -> Option<PathBuf>
         ensures { GivesUp self.entry result log.old.events log.new.events }
     {
-        let NewFile {
-            path,
-            mut place,
-            ..
-        } = self;
+        let NewFile { mut place, .. } = self;
         let is_left = place.remove().is_err();
-        note_at(log, path.as_str(), place.calls());
+        place.note_put(log);
         left_of(place, is_left)
     }
 }
@@ -224,7 +217,7 @@ pub(crate) fn put_over<B: FolderWorld>(
         Err(error) => return Err(shut(error)),
     };
     let done = replace(&mut place, bytes, Some(rights));
-    note_at(log, path.as_str(), place.calls());
+    place.note_put(log);
     match done {
         Ok(answer) => Ok(answer),
         Err(fault) => Err(stopped(place, fault)),
@@ -236,9 +229,10 @@ impl<'a> Stream<'a> {
     fn put(self, log: &mut HeldCalls) -> io::Result<()>
         ensures { log.new.events ≡ HeldCall.Stream (is_ok result) self.entry.bytes.now ∷ log.old.events }
     {
-        let Stream { mut file, bytes } = self;
-        let done = file.write_all(bytes);
-        note_stream(log, done.is_ok(), bytes);
+        let Stream { file, bytes } = self;
+        let mut calls = HostCalls::new();
+        let done = write_whole(&file, bytes, u64::MAX, &mut calls);
+        note_stream(log, done.is_ok(), &file, bytes, &calls);
         done
     }
 }
@@ -335,19 +329,14 @@ fn put_files<F: FolderWorld, G: FolderWorld>(
 ) -> Result<(FolderSync, FolderSync), NotBoth>
     ensures { EndsBoth (λ end. PutsFiles F.held G.held first.entry second.entry end log.old.events log.new.events) result }
 {
+    let NewFile { place: mut one, .. } = first;
     let NewFile {
-        path,
-        place: mut one,
-        ..
-    } = first;
-    let NewFile {
-        path: second_path,
         place: mut other,
         ..
     } = second;
     let done = put_both_places(&mut one, &mut other);
-    note_at(log, path.as_str(), one.calls());
-    note_at(log, second_path.as_str(), other.calls());
+    one.note_put(log);
+    other.note_put(log);
     match done {
         Ok(answers) => Ok(answers),
         Err(fault) => Err(not_both(one, other, fault)),

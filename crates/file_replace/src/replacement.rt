@@ -63,6 +63,7 @@ fn dress<R: Replaces>(
     ensures calls { CallsToDress old result (R.seen place.old).calls (R.seen place.new).calls }
     ensures dresses { IfHonest (Dresses old result) (R.seen place.old) (R.seen place.new) }
     ensures cause { Counts (R.failures place.old) (R.failures place.new) result }
+    ensures stays { R.spot place.new ≡ R.spot place.old }
 {
     let Some(rights) = old else {
         return Ok(None);
@@ -90,6 +91,7 @@ fn fill<R: Replaces>(
     ensures calls { CallsToFill old bytes.now result (R.seen place.old).calls (R.seen place.new).calls }
     ensures fills { IfHonest (Fills old bytes.now result) (R.seen place.old) (R.seen place.new) }
     ensures cause { Counts (R.failures place.old) (R.failures place.new) result }
+    ensures stays { R.spot place.new ≡ R.spot place.old }
 {
     if let Err(error) = place.write(bytes) {
         return failed(Step::Write, error);
@@ -117,6 +119,7 @@ pub fn prepare<R: Replaces>(
     ensures calls { CallsToPrepare old bytes.now result (R.seen place.old).calls (R.seen place.new).calls }
     ensures prepares { IfHonest (Prepares old bytes.now result) (R.seen place.old) (R.seen place.new) }
     ensures cause { Counts (R.failures place.old) (R.failures place.new) result }
+    ensures stays { R.spot place.new ≡ R.spot place.old }
     ensures beside { IfErr result (λ fault. fault.is_left ≡ true → R.may_leave place.new ≡ true) }
     ensures left { IfErr result (λ fault. fault.is_left ≡ true → RoseTwice (R.failures place.old) (R.failures place.new)) }
 {
@@ -142,6 +145,7 @@ fn rename_checked<R: Replaces>(place: &mut R) -> Result<(), Stopped<R::Error>>
     ensures calls { CallsToRename result (R.seen place.old).calls (R.seen place.new).calls }
     ensures moves { IfHonest (Moves result) (R.seen place.old) (R.seen place.new) }
     ensures cause { Counts (R.failures place.old) (R.failures place.new) result }
+    ensures stays { R.spot place.new ≡ R.spot place.old }
 {
     if let Err(error) = place.check() {
         return failed(Step::Check, error);
@@ -158,6 +162,7 @@ pub fn put<R: Replaces>(place: &mut R) -> Result<FolderSync, Fault<R::Error>>
     ensures calls { CallsToPut result (R.seen place.old).calls (R.seen place.new).calls }
     ensures puts { IfHonest (Puts result) (R.seen place.old) (R.seen place.new) }
     ensures cause { Counts (R.failures place.old) (R.failures place.new) result }
+    ensures stays { R.spot place.new ≡ R.spot place.old }
     ensures beside { IfErr result (λ fault. fault.is_left ≡ true → R.may_leave place.new ≡ true) }
     ensures left { IfErr result (λ fault. fault.is_left ≡ true → RoseTwice (R.failures place.old) (R.failures place.new)) }
 {
@@ -190,6 +195,7 @@ pub fn replace<R: Replaces>(
     ensures calls { CallsOf old bytes.now result (R.seen place.old).calls (R.seen place.new).calls }
     ensures replaces { IfHonest (ReplacesFile old bytes.now result) (R.seen place.old) (R.seen place.new) }
     ensures cause { Counts (R.failures place.old) (R.failures place.new) result }
+    ensures stays { R.spot place.new ≡ R.spot place.old }
     ensures beside { IfErr result (λ fault. fault.is_left ≡ true → R.may_leave place.new ≡ true) }
     ensures left { IfErr result (λ fault. fault.is_left ≡ true → RoseTwice (R.failures place.old) (R.failures place.new)) }
 {

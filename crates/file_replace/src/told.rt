@@ -1,9 +1,10 @@
 //! Why a file wasn't replaced, as it is reported.
 
-ghost use Rattle.std.specs.Prelude.{◌≡◌, None};
+ghost use Rattle.std.specs.Prelude.{◌≡◌};
 ghost use Rattle.file_replace.specs.declared.told.NotReplaced.TheVariants.{HostFull};
 
 use crate::replacement::Step;
+use crate::stop::Stop;
 use path_text::FileName;
 use std::alloc::AllocError;
 use std::error::Error;
@@ -41,17 +42,6 @@ pub enum NotReplaced {
     Stream(io::Error),
     /// The host has no memory. Nothing was written.
     HostFull,
-}
-
-/// A step that failed.
-#[derive(Debug, Drop)]
-pub struct Stop {
-    /// The step.
-    pub step: Step,
-    /// Why it failed.
-    pub error: io::Error,
-    /// The file that was made and couldn't be removed, if there is one.
-    pub left: Option<PathBuf>,
 }
 
 /// What is said before and after the error of a step.

@@ -1,7 +1,7 @@
 -- Calls of the system at paths and on open files, and what follows from their answers.
-use Rattle.std.specs.Prelude.{◌≡◌, ◌⊎◌, ℕ, ◌==◌, ◌&&◌, Bool, true, false, if◌then◌else◌, bytes_eq, codes, List, [], ◌∷◌, Option, Some, None, IfSome, Result, Ok, Err, string_bytes, unwrap_or}
+use Rattle.std.specs.Prelude.{◌≡◌, ⊤, ◌⊎◌, ℕ, ◌==◌, ◌&&◌, Bool, true, false, if◌then◌else◌, bytes_eq, codes, List, [], ◌∷◌, Option, Some, None, Result, Ok, Err, unwrap_or}
 use Rattle.std.specs.Global.{Global}
-use Rattle.std.specs.Path.{path_buf_bytes, path_file_name, path_parent}
+use Rattle.std.specs.Path.{path_buf_bytes, path_parent}
 use Rattle.std.specs.declared.fs.File.{File}
 use Rattle.std.specs.declared.path.buf.PathBuf.{PathBuf}
 use Rattle.host_paths.specs.declared.host.Answer.{Answer}
@@ -10,10 +10,10 @@ use Rattle.host_paths.specs.declared.host.FileKind.{FileKind}
 use Rattle.host_paths.specs.declared.host.FileKind.TheVariants as kinds
 use Rattle.host_paths.specs.declared.host.Found.{Found}
 use Rattle.host_paths.specs.declared.host.HostCall.{HostCall}
-use Rattle.host_paths.specs.declared.host.HostCall.TheVariants.{At, Over, Of}
+use Rattle.host_paths.specs.declared.host.HostCall.TheVariants.{At, Over, Of, ReadLink, Open, Lock, User, Empty}
 use Rattle.host_paths.specs.declared.host.Locking.{Locking}
 use Rattle.host_paths.specs.declared.host.Syncing.{Syncing}
-use Rattle.host_paths.specs.declared.identity.Identity.{Identity}
+use Rattle.host_paths.specs.declared.host.Syncing.TheVariants as syncs
 
 -- the calls, the newest first
 abbrev pub Log : Type 0
@@ -50,6 +50,16 @@ abbrev pub sync_answer : {E : Type 0} → Result Syncing E → Option Syncing
 sync_answer (Ok syncing) = Some syncing
 sync_answer (Err error) = None
 
+-- a file was synced, if the call didn't fail
+abbrev pub done_answer : {T E : Type 0} → Result T E → Option Syncing
+done_answer (Ok value) = Some syncs.Done
+done_answer (Err error) = None
+
+-- the user that was asked for, if one is known
+abbrev pub asked_user : {E : Type 0} → Result ℕ E → Option ℕ
+asked_user (Ok user) = Some user
+asked_user (Err error) = None
+
 -- a regular file
 abbrev pub is_regular : FileKind → Bool
 is_regular kinds.Regular = true
@@ -73,16 +83,30 @@ LeadsTo path file is old new = ((is ≡ false) × (new ≡ At path Nothing ∷ o
 abbrev pub AsksBoth : List ℕ → File → Log → Log → Type 0
 AsksBoth path file old new = ((answer : Answer) × (new ≡ At path answer ∷ old)) ⊎ ((answer : Answer) × (here : Answer) × (new ≡ Of file here ∷ At path answer ∷ old))
 
+-- a path was asked for, and then an open file, and one of the two calls failed
+abbrev pub CantTell : List ℕ → File → Log → Log → Type 0
+CantTell path file old new = (new ≡ At path Failed ∷ old) ⊎ ((there : Found) × (new ≡ Of file Failed ∷ At path (Is there) ∷ old))
+
+-- a call that only asks or opens: nothing is made, changed or removed by it
+abbrev pub is_asking : HostCall → Bool
+is_asking (At path answer) = true
+is_asking (Over path answer) = true
+is_asking (Of file answer) = true
+is_asking (ReadLink path named) = true
+is_asking (Open access path file) = true
+is_asking (Lock file locking) = true
+is_asking (User user) = true
+is_asking (Empty folder is) = true
+is_asking call = false
+
+-- all calls are such
+abbrev pub OnlyAsks : Log → Type 0
+OnlyAsks [] = ⊤
+OnlyAsks (call ∷ past) = OnlyAsks past × (is_asking call ≡ true)
+
+abbrev pub KeepsAsking : Log → Log → Type 0
+KeepsAsking old new = OnlyAsks old → OnlyAsks new
+
 -- the folder of a path, as it is opened
 abbrev pub folder_name : List ℕ → List ℕ
 folder_name path = let folder = unwrap_or (path_parent path) [] in if bytes_eq folder [] then codes "." else folder
-
--- this is the folder of a path, which was asked for, with the name that the path has in it
-abbrev pub Names : Identity → Log → Log → Type 0
-Names it old new = (to : List ℕ) × (found : Found) × (it.device ≡ found.device) × (it.number ≡ found.number)
-    × IfSome it.name (λ name. path_file_name to ≡ Some (string_bytes name)) × (new ≡ Over (folder_name to) (Is found) ∷ old)
-
--- A path was asked for. It leads to this; or to nothing, and this is the folder of where that would be, with its name.
-abbrev pub Identifies : List ℕ → Identity → Log → Log → Type 0
-Identifies path it old new = ((found : Found) × (it ≡ record { device = found.device; number = found.number; name = None }) × (new ≡ Over path (Is found) ∷ old))
-    ⊎ Names it (Over path Nothing ∷ old) new

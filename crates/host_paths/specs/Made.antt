@@ -1,37 +1,48 @@
 -- The file that is made beside a path.
-use Rattle.std.specs.Prelude.{◌≡◌, ℕ, Bool, true, false, List, [], ◌∷◌, ◌++◌, codes, unwrap_or, Option, Some, Result, Ok, Err}
-use Rattle.std.specs.Fmt.{decimal}
-use Rattle.std.specs.Path.{path_buf_bytes, path_join, path_parent}
+use Rattle.std.specs.Prelude.{◌≡◌, ◌⊎◌, ℕ, Bool, true, false, List, ◌∷◌, Option, Some, None, Result, Ok, Err}
+use Rattle.std.specs.Path.{path_buf_bytes}
 use Rattle.std.specs.declared.fs.File.{File}
 use Rattle.host_paths.specs.declared.beside.Beside.{Beside}
-use Rattle.host_paths.specs.declared.host.HostCall.TheVariants.{Make, Remove}
-use Rattle.host_paths.specs.Asked.{Log}
+use Rattle.host_paths.specs.declared.host.HostCall.TheVariants.{Lock, Make, Remove}
+use Rattle.host_paths.specs.declared.host.Locking.TheVariants.{Taken, Busy, NotOffered}
+use Rattle.host_paths.specs.Asked.{CantTell, LeadsTo, Log}
+use Rattle.host_paths.specs.Naming.{path_beside}
 
 -- where a new file was made
 abbrev pub path_of : Beside → List ℕ
-path_of beside = path_buf_bytes beside.path
+path_of beside = path_buf_bytes beside.path.path
+
+-- the file itself
+abbrev pub file_of : Beside → File
+file_of beside = beside.file
 
 -- the mode with which a new file is made: a private one can be read by its owner alone
 abbrev pub mode_of : Bool → ℕ
 mode_of true = 0o600
 mode_of false = 0o666
 
--- a file was to be made at this path, and if one was it may be another's
+-- a new file was locked, and its path led to it still; or no lock can be had, or the path can't be asked for
+abbrev pub IsOurs : List ℕ → File → Log → Log → Type 0
+IsOurs path file old new = (new ≡ Lock file (Some NotOffered) ∷ old) ⊎ ((new ≡ Lock file None ∷ old)
+    ⊎ (LeadsTo path file true (Lock file (Some Taken) ∷ old) new ⊎ CantTell path file (Lock file (Some Taken) ∷ old) new))
+
+-- another program has its lock, or has put another file at its path
+abbrev pub IsOthers : List ℕ → File → Log → Log → Type 0
+IsOthers path file old new = (new ≡ Lock file (Some Busy) ∷ old) ⊎ LeadsTo path file false (Lock file (Some Taken) ∷ old) new
+
+-- this file was made beside a path, and is locked
+abbrev pub IsMade : List ℕ → Bool → Beside → Log → Log → Type 0
+IsMade path is_private beside old new = (path_of beside ≡ path) × IsOurs path beside.file (Make (mode_of is_private) path (Some beside.file) ∷ old) new
+
+-- a file was to be made at this path: it was; or there is one, or another program took it; or why not
 abbrev pub MakesAt : {E : Type 0} → Bool → List ℕ → Result (Option Beside) E → Log → Log → Type 0
-MakesAt is_private path (Ok (Some beside)) old new = (path_of beside ≡ path) × (new ≡ Make (mode_of is_private) path (Some beside.file) ∷ old)
-MakesAt is_private path result old new = (file : Option File) × (new ≡ Make (mode_of is_private) path file ∷ old)
+MakesAt is_private path (Ok (Some beside)) old new = IsMade path is_private beside old new
+MakesAt is_private path (Ok None) old new = (new ≡ Make (mode_of is_private) path None ∷ old) ⊎ ((file : File) × IsOthers path file (Make (mode_of is_private) path (Some file) ∷ old) new)
+MakesAt is_private path (Err error) old new = (new ≡ old) ⊎ (new ≡ Make (mode_of is_private) path None ∷ old)
 
--- the name of a new file, by its number
-abbrev pub new_name : ℕ → List ℕ
-new_name number = codes ".resfork-" ++ decimal number ++ codes ".new"
-
--- a path beside a path, by its number
-abbrev pub path_beside : List ℕ → ℕ → List ℕ
-path_beside path number = path_join (unwrap_or (path_parent path) []) (new_name number)
-
--- the last call made this file, beside this path
+-- the last calls made this file, beside this path
 abbrev pub MakesBeside : List ℕ → Bool → Beside → Log → Type 0
-MakesBeside path is_private beside new = (number : ℕ) × (past : Log) × (path_of beside ≡ path_beside path number) × (new ≡ Make (mode_of is_private) (path_of beside) (Some beside.file) ∷ past)
+MakesBeside path is_private beside new = (number : ℕ) × (past : Log) × IsMade (path_beside path number) is_private beside past new
 
 -- the file at this path was removed, or it is done since there was none
 abbrev pub RemovesAt : {T E : Type 0} → List ℕ → Result T E → Log → Log → Type 0

@@ -1,20 +1,21 @@
 //! The new file that is made beside a path, and what killed programs left of such.
 
-ghost use Rattle.std.specs.Prelude.{◌≡◌, ◌∷◌, ◌++◌, codes, IfOk, IfSome, is_ok, string_bytes};
-ghost use Rattle.std.specs.Bool.{OnTrue};
+ghost use Rattle.std.specs.Prelude.{◌≡◌, ◌∷◌, ◌++◌, codes, IfOk, IfSome, Some, is_ok};
+ghost use Rattle.std.specs.Bool.{OnFalse, OnTrue};
 ghost use Rattle.std.specs.Char.{is_ascii_digit};
 ghost use Rattle.std.specs.List.{list_all};
 ghost use Rattle.std.specs.Path.{path_buf_bytes};
-ghost use Rattle.host_paths.specs.Left.{IsLeft, IsNewName, KeepsSwept, is_number, is_of_users};
-ghost use Rattle.host_paths.specs.Made.{MakesAt, MakesBeside, RemovesAt, mode_of, new_name, path_beside, path_of};
+ghost use Rattle.host_paths.specs.Left.{AreUsers, IsLeft, IsNewName, KeepsSwept, MayHaveGiven, OnlyBeside, RemovesNone, is_number, is_of_users, last_name};
+ghost use Rattle.host_paths.specs.Made.{IsOthers, IsOurs, MakesAt, MakesBeside, RemovesAt, file_of, mode_of, path_of};
+ghost use Rattle.host_paths.specs.Naming.{IsMadePath, path_beside};
 ghost use Rattle.host_paths.specs.declared.host.HostCall.TheVariants.{Rename};
 
 use crate::host::{
     Access, Found, HostCalls, Locking, found_at, found_of, lock, make, open, remove, rename,
+    this_user,
 };
-use crate::limits::this_user;
-use crate::links::{folder_name, folder_of, leads_to};
-use std::alloc::AllocError;
+use crate::links::{folder_name, leads_to};
+use crate::made_path::{AFTER_NUMBER, BEFORE_NUMBER, MadePath};
 use std::fs::File;
 use std::io::ErrorKind;
 use std::path::PathBuf;
@@ -29,38 +30,18 @@ const MOST_ENTRIES: usize = 100_000;
 /// The user who may give a file away.
 const ROOT: u32 = 0;
 
-/// How the name of each new file begins and ends, with a number between.
-const BEFORE_NUMBER: &str = ".resfork-";
-
-const AFTER_NUMBER: &str = ".new";
-
 /// A file that was made beside a path, open and locked. When it is dropped it is removed.
 pub struct Beside<'a> {
     rt: &'a HostRuntime,
     file: File,
-    path: PathBuf,
+    path: MadePath,
 }
 
 impl Drop for Beside<'_> {
     fn drop(self) {
         let Beside { rt, file: _, path } = self;
-        let _ = fs::remove_file(rt, &path);
+        let _ = fs::remove_file(rt, path.as_str());
     }
-}
-
-/// The name of a new file, by its number.
-fn new_name(rt: &HostRuntime, number: u32) -> Result<String, AllocError>
-    ensures { IfOk result (λ name. string_bytes name ≡ new_name number) }
-{
-    format!(in rt.alloc(); "{BEFORE_NUMBER}{number}{AFTER_NUMBER}")
-}
-
-/// A path beside a path, by its number among those that are tried for the new file.
-fn path_beside(rt: &HostRuntime, path: &PathBuf, number: u32) -> Result<PathBuf, AllocError>
-    ensures { IfOk result (λ it. path_buf_bytes it ≡ path_beside (path_buf_bytes path.now) number) }
-{
-    let name = new_name(rt, number)?;
-    folder_of(path).join(rt.alloc(), name.as_str())
 }
 
 /// The number in the name of a file that is made beside another, if it is such a name.
@@ -98,13 +79,26 @@ fn is_new_name(name: &str) -> bool
 }
 
 /// The owner that root's new file may have got: that of the file which is to be replaced.
-fn given_owner(rt: &HostRuntime, path: &PathBuf, user: u32) -> Option<u32> {
+fn given_owner(rt: &HostRuntime, path: &PathBuf, user: u32, log: &mut HostCalls) -> Option<u32>
+    ensures { MayHaveGiven (path_buf_bytes path.now) user result log.old.events log.new.events }
+{
     if user != ROOT {
         return None;
     }
-    match found_at(rt, path.as_str(), &mut HostCalls::new()) {
+    match found_at(rt, path.as_str(), log) {
         Ok(Some(found)) => Some(found.user),
         _ => None,
+    }
+}
+
+/// The users of whom files are removed that were left beside a path: the one of this process, and the owner that root's
+/// new file may have got.
+fn users_at(rt: &HostRuntime, path: &PathBuf, log: &mut HostCalls) -> Option<(u32, Option<u32>)>
+    ensures { AreUsers (path_buf_bytes path.now) result log.old.events log.new.events }
+{
+    match this_user(rt, log) {
+        Ok(user) => Some((user, given_owner(rt, path, user, log))),
+        Err(_) => None,
     }
 }
 
@@ -124,7 +118,7 @@ fn left_at(
     log: &mut HostCalls,
 ) -> io::Result<Option<File>>
     ensures left { IfOk result (λ left. IfSome left (λ file. IsLeft path.now users file log.old.events log.new.events)) }
-    ensures kept { KeepsSwept users log.old.events log.new.events }
+    ensures kept { RemovesNone log.old.events log.new.events }
 {
     let Some(found) = found_at(rt, path, log)? else {
         return Ok(None);
@@ -149,7 +143,8 @@ fn remove_left(
     users: (u32, Option<u32>),
     log: &mut HostCalls,
 ) -> io::Result<()>
-    ensures { KeepsSwept users log.old.events log.new.events }
+    requires { IsNewName (last_name path.now) }
+    ensures { KeepsSwept (Some users) log.old.events log.new.events }
 {
     match left_at(rt, path, users, log)? {
         Some(_file) => remove(rt, path, log),
@@ -159,7 +154,7 @@ fn remove_left(
 
 /// Removes the new files that killed programs of these users left in a folder.
 fn sweep_folder(rt: &HostRuntime, folder: &str, users: (u32, Option<u32>), log: &mut HostCalls)
-    ensures { KeepsSwept users log.old.events log.new.events }
+    ensures { KeepsSwept (Some users) log.old.events log.new.events }
 {
     let Ok(entries) = fs::read_dir(rt, folder) else {
         return;
@@ -178,20 +173,28 @@ fn sweep_folder(rt: &HostRuntime, folder: &str, users: (u32, Option<u32>), log: 
 
 /// Removes the new files that killed programs of this user left in the folder of a path. Where the folder can't be
 /// read, and where no user is known, none is removed.
-fn sweep(rt: &HostRuntime, path: &PathBuf) {
-    if let Ok(user) = this_user(rt) {
-        let users = (user, given_owner(rt, path, user));
-        sweep_folder(rt, folder_name(path), users, &mut HostCalls::new());
+fn sweep(rt: &HostRuntime, path: &PathBuf, log: &mut HostCalls)
+    ensures { OnlyBeside (path_buf_bytes path.now) log.old.events log.new.events }
+{
+    match users_at(rt, path, log) {
+        Some(users) => sweep_folder(rt, folder_name(path), users, log),
+        None => {}
     }
 }
 
 /// Whether a new file is this program's still. Another one that removes what was left may have come before it was
 /// locked: it holds the lock then, or the path doesn't lead to this file. Where a file can't be locked at all, no
 /// program removes it.
-fn is_ours(rt: &HostRuntime, path: &str, file: &File) -> bool {
-    let mut log = HostCalls::new();
-    match lock(file, &mut log) {
-        Ok(Locking::Taken) => leads_to(rt, path, file, &mut log).unwrap_or(true),
+fn is_ours(rt: &HostRuntime, path: &str, file: &File, log: &mut HostCalls) -> bool
+    ensures ours { OnTrue result (IsOurs path.now file.now log.old.events log.new.events) }
+    ensures others { OnFalse result (IsOthers path.now file.now log.old.events log.new.events) }
+    ensures kept { RemovesNone log.old.events log.new.events }
+{
+    match lock(file, log) {
+        Ok(Locking::Taken) => match leads_to(rt, path, file, log) {
+            Ok(is) => is,
+            Err(_) => true,
+        },
         Ok(Locking::Busy) => false,
         Ok(Locking::NotOffered) | Err(_) => true,
     }
@@ -213,42 +216,47 @@ impl<'a> Beside<'a> {
         is_private: bool,
         log: &mut HostCalls,
     ) -> io::Result<Beside<'a>>
-        ensures { IfOk result (λ beside. MakesBeside (path_buf_bytes path.now) is_private beside log.new.events) }
+        ensures made { IfOk result (λ beside. MakesBeside (path_buf_bytes path.now) is_private beside log.new.events) }
+        ensures only { OnlyBeside (path_buf_bytes path.now) log.old.events log.new.events }
     {
-        sweep(rt, path);
+        sweep(rt, path, log);
         for number in 0..MOST_NAMES {
-            let path = path_beside(rt, path, number)?;
-            if let Some(beside) = Beside::make_at(rt, path, is_private, log)? {
+            if let Some(beside) = Beside::make_at(rt, path, number, is_private, log)? {
                 return Ok(beside);
             }
         }
         Err(ErrorKind::AlreadyExists.into())
     }
 
-    /// Makes an empty file at this path and locks it. None where there is one already, and where another process took
-    /// it before it was locked.
+    /// Makes an empty file beside a path, by its number, and locks it. None where there is one already, and where
+    /// another process took it before it was locked.
     fn make_at(
         rt: &'a HostRuntime,
-        path: PathBuf,
+        path: &PathBuf,
+        number: u32,
         is_private: bool,
         log: &mut HostCalls,
     ) -> io::Result<Option<Beside<'a>>>
-        ensures { MakesAt is_private (path_buf_bytes path) result log.old.events log.new.events }
+        ensures made { MakesAt is_private (path_beside (path_buf_bytes path.now) number) result log.old.events log.new.events }
+        ensures kept { RemovesNone log.old.events log.new.events }
     {
+        let path = MadePath::beside(rt, path, number)?;
         let file = match make(rt, path.as_str(), mode_of(is_private), log) {
             Ok(file) => file,
             Err(error) if error.kind() == ErrorKind::AlreadyExists => return Ok(None),
             Err(error) => return Err(error),
         };
-        if !is_ours(rt, path.as_str(), &file) {
+        if !is_ours(rt, path.as_str(), &file, log) {
             return Ok(None);
         }
         Ok(Some(Beside { rt, file, path }))
     }
 
     /// The open file.
-    pub fn file(&mut self) -> &mut File {
-        &mut self.file
+    pub fn file(&self) -> &File
+        ensures { result.now ≡ file_of self.now }
+    {
+        &self.file
     }
 
     /// Renames it to a path. It is at its own still where that fails.
@@ -270,13 +278,14 @@ impl<'a> Beside<'a> {
 
     /// The path at which it was made. Nothing there is removed.
     pub fn into_path(self) -> PathBuf
-        ensures { result ≡ self.entry.path }
+        ensures same { path_buf_bytes result ≡ path_of self.entry }
+        ensures made { ∥ IsMadePath (path_buf_bytes result) ∥₁ }
     {
         let Beside {
             rt: _,
             file: _,
             path,
         } = self;
-        path
+        path.into_path()
     }
 }

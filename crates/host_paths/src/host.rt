@@ -2,15 +2,15 @@
 //! is said of them rests on this: each function here that notes a call makes that one and no other.
 
 ghost use Rattle.std.specs.Prelude.{◌≡◌, ◌∷◌, is_ok};
-ghost use Rattle.host_paths.specs.Asked.{answer_of, is_folder, is_regular, lock_answer, named_path, opened, said_of, same_file, sync_answer};
+ghost use Rattle.host_paths.specs.Asked.{answer_of, asked_user, done_answer, is_folder, is_regular, lock_answer, named_path, opened, said_of, same_file, sync_answer};
 ghost use Rattle.host_paths.specs.Following.{is_link};
-ghost use Rattle.host_paths.specs.declared.host.HostCall.TheVariants.{At, Lock, Make, Of, Open, OpenOrMake, Over, ReadLink, Remove, Rename, Sync};
+ghost use Rattle.host_paths.specs.declared.host.HostCall.TheVariants.{At, Give, Lock, Make, Of, Open, OpenOrMake, Over, ReadLink, Remove, Rename, SetMode, Sync, User, Write};
 
 use fork_disk::Record;
 use std::collections::LinkedList;
-use std::fs::{File, Metadata, OpenOptions, TryLockError};
-use std::io::ErrorKind;
-use std::os::unix::fs::{MetadataExt, OpenOptionsExt};
+use std::fs::{File, Metadata, OpenOptions, Permissions, TryLockError};
+use std::io::{ErrorKind, Write};
+use std::os::unix::fs::{MetadataExt, OpenOptionsExt, PermissionsExt, fchown};
 use std::path::PathBuf;
 use std::{fs, io};
 
@@ -105,6 +105,16 @@ pub enum HostCall {
     Rename(LinkedList<u8>, LinkedList<u8>, bool),
     /// It was to remove what is at this path, and whether it did.
     Remove(LinkedList<u8>, bool),
+    /// It was to write all these bytes to this file, and whether it did.
+    Write(File, LinkedList<u8>, bool),
+    /// It was to give this file to a user, if one is named, and to a group, and whether it did.
+    Give(File, Option<u32>, u32, bool),
+    /// It was to give this file this mode, and whether it did.
+    SetMode(File, u32, bool),
+    /// It was asked for which user this process acts.
+    User(Option<u32>),
+    /// It was asked whether this open folder has nothing in it.
+    Empty(File, Option<bool>),
 }
 
 /// The calls, the newest first.
@@ -289,6 +299,15 @@ pub fn sync(file: &File, log: &mut HostCalls) -> io::Result<Syncing>
     syncing
 }
 
+/// Makes an open file stable, so that a crash leaves it as it is. Where that isn't offered, it fails.
+pub fn sync_file(file: &File, log: &mut HostCalls) -> io::Result<()>
+    ensures { log.new.events ≡ Sync file.now (done_answer result) ∷ log.old.events }
+{
+    let done = file.sync_all();
+    *log = Record::of_events_beside(log, file, &done);
+    done
+}
+
 /// Whether an error of this kind says that the file system doesn't offer a call.
 fn is_not_offered(kind: ErrorKind) -> bool {
     matches!(kind, ErrorKind::InvalidInput | ErrorKind::Unsupported)
@@ -323,4 +342,45 @@ pub(crate) fn remove(rt: &HostRuntime, path: &str, log: &mut HostCalls) -> io::R
     let done = fs::remove_file(rt, path);
     *log = Record::of_events_beside(log, &path, &done);
     done
+}
+
+/// Writes all these bytes to an open file, where one may be so long.
+pub fn write_whole(file: &File, bytes: &[u8], longest: u64, log: &mut HostCalls) -> io::Result<()>
+    ensures { log.new.events ≡ Write file.now bytes.now (is_ok result) ∷ log.old.events }
+{
+    let mut writer = file;
+    let done: io::Result<()> = if bytes.len() as u64 > longest {
+        Err(ErrorKind::FileTooLarge.into())
+    } else {
+        writer.write_all(bytes)
+    };
+    *log = Record::of_events_beside(log, &(file, bytes), &done);
+    done
+}
+
+/// Gives an open file to a user, if one is named, and to a group.
+pub fn give(file: &File, user: Option<u32>, group: u32, log: &mut HostCalls) -> io::Result<()>
+    ensures { log.new.events ≡ Give file.now user group (is_ok result) ∷ log.old.events }
+{
+    let done = fchown(file, user, Some(group));
+    *log = Record::of_events_beside(log, &(file, user, group), &done);
+    done
+}
+
+/// Gives an open file a mode.
+pub fn set_mode(file: &File, mode: u32, log: &mut HostCalls) -> io::Result<()>
+    ensures { log.new.events ≡ SetMode file.now mode (is_ok result) ∷ log.old.events }
+{
+    let done = file.set_permissions(Permissions::from_mode(mode));
+    *log = Record::of_events_beside(log, &(file, mode), &done);
+    done
+}
+
+/// The user for whom this process acts, as Linux says. Elsewhere none is known.
+pub fn this_user(rt: &HostRuntime, log: &mut HostCalls) -> io::Result<u32>
+    ensures { log.new.events ≡ User (asked_user result) ∷ log.old.events }
+{
+    let user = fs::metadata(rt, "/proc/self").map(|metadata| metadata.uid());
+    *log = Record::of_events_beside(log, &user, &());
+    user
 }

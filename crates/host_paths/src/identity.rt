@@ -1,10 +1,10 @@
 //! What a path leads to, whatever it is called.
 
 ghost use Rattle.std.specs.Prelude.{◌≡◌, IfOk};
-ghost use Rattle.host_paths.specs.Asked.{Identifies, Names};
+ghost use Rattle.host_paths.specs.Identified.{Identifies, Names};
 
 use crate::host::{Found, HostCalls, found_over};
-use crate::links::{folder_name, followed};
+use crate::links::{folder_name, follow};
 use std::io;
 
 /// What a path leads to, over links: two paths of one identity lead to the same file.
@@ -43,9 +43,9 @@ impl Identity {
 
     /// What a path leads to at which there is nothing so far.
     fn of_new(rt: &HostRuntime, path: &str, log: &mut HostCalls) -> io::Result<Identity>
-        ensures { IfOk result (λ it. Names it log.old.events log.new.events) }
+        ensures { IfOk result (λ it. Names path.now it log.old.events log.new.events) }
     {
-        let path = followed(rt, path)?;
+        let path = follow(rt, path, log)?;
         let Some(folder) = found_over(rt, folder_name(&path), log)? else {
             return Err(io::ErrorKind::NotFound.into());
         };

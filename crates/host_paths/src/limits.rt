@@ -1,9 +1,6 @@
 //! What the system lets this process do.
 
-use std::fs::File;
-use std::io::{ErrorKind, Write};
-use std::os::unix::fs::MetadataExt;
-use std::{fs, io};
+use std::fs;
 
 /// The limit that a line of the kernel's list gives, where it is that of a file's length. No number means no
 /// limit.
@@ -19,17 +16,4 @@ pub fn longest_file(rt: &HostRuntime) -> u64 {
         Ok(limits) => limits.lines().find_map(limit_in).unwrap_or(u64::MAX),
         Err(_) => u64::MAX,
     }
-}
-
-/// Writes all these bytes to a file, where one may be so long.
-pub fn write_whole(file: &mut File, bytes: &[u8], longest: u64) -> io::Result<()> {
-    if bytes.len() as u64 > longest {
-        return Err(ErrorKind::FileTooLarge.into());
-    }
-    file.write_all(bytes)
-}
-
-/// The user for whom this process acts, as Linux says. Elsewhere none is known.
-pub fn this_user(rt: &HostRuntime) -> io::Result<u32> {
-    Ok(fs::metadata(rt, "/proc/self")?.uid())
 }

@@ -1,8 +1,8 @@
 //! Where a path leads.
 
-ghost use Rattle.std.specs.Prelude.{◌≡◌, ℕ, List, [], ◌∷◌, Some, unwrap_or, IfOk};
+ghost use Rattle.std.specs.Prelude.{◌≡◌, ℕ, List, [], ◌∷◌, Some, unwrap_or, IfOk, OnErr};
 ghost use Rattle.std.specs.Path.{path_buf_bytes, path_bytes, path_parent};
-ghost use Rattle.host_paths.specs.Asked.{AsksBoth, LeadsTo, folder_name};
+ghost use Rattle.host_paths.specs.Asked.{AsksBoth, CantTell, KeepsAsking, LeadsTo, folder_name};
 ghost use Rattle.host_paths.specs.Following.{Follows, after_link, is_link_found};
 ghost use Rattle.host_paths.specs.declared.host.HostCall.TheVariants.{ReadLink};
 
@@ -40,6 +40,7 @@ pub fn folder_name<'a>(path: &'a PathBuf) -> &'a str
 pub fn leads_to(rt: &HostRuntime, path: &str, file: &File, log: &mut HostCalls) -> io::Result<bool>
     ensures leads { IfOk result (λ is. LeadsTo path.now file.now is log.old.events log.new.events) }
     ensures asks { AsksBoth path.now file.now log.old.events log.new.events }
+    ensures fails { OnErr result (CantTell path.now file.now log.old.events log.new.events) }
 {
     match found_at(rt, path, log)? {
         Some(there) => Ok(there.is_same(&found_of(file, log)?)),
@@ -49,8 +50,9 @@ pub fn leads_to(rt: &HostRuntime, path: &str, file: &File, log: &mut HostCalls) 
 
 /// The path that the link at a path names.
 fn after_link(rt: &HostRuntime, path: &PathBuf, log: &mut HostCalls) -> io::Result<PathBuf>
-    ensures { IfOk result (λ next. (named : List ℕ) × (path_buf_bytes next ≡ after_link (path_buf_bytes path.now) named)
+    ensures after { IfOk result (λ next. (named : List ℕ) × (path_buf_bytes next ≡ after_link (path_buf_bytes path.now) named)
         × (log.new.events ≡ ReadLink (path_buf_bytes path.now) (Some named) ∷ log.old.events)) }
+    ensures asks { KeepsAsking log.old.events log.new.events }
 {
     let named = link_at(rt, path.as_str(), log)?;
     Ok(folder_of(path).join(rt.alloc(), named.as_str())?)
@@ -68,7 +70,8 @@ fn is_link_found(found: &Option<Found>) -> bool
 
 /// The path of the file that this path leads to, over links. There may be no file. What was asked is noted.
 pub fn follow(rt: &HostRuntime, path: &str, log: &mut HostCalls) -> io::Result<PathBuf>
-    ensures { IfOk result (λ to. Follows path.now (path_buf_bytes to) log.old.events log.new.events) }
+    ensures follows { IfOk result (λ to. Follows path.now (path_buf_bytes to) log.old.events log.new.events) }
+    ensures asks { KeepsAsking log.old.events log.new.events }
 {
     let mut here = PathBuf::from_str(rt.alloc(), path)?;
     for _turn in 0..MOST_LINKS {

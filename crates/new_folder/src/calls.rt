@@ -1,10 +1,13 @@
 //! The calls that were made in a folder, for clauses alone.
 
-ghost use Rattle.std.specs.Prelude.{◌≡◌, ◌∷◌, Some, option_map};
-ghost use Rattle.new_folder.specs.NewFolder.{path_below};
+ghost use Rattle.std.specs.Prelude.{◌≡◌, [], ◌∷◌, Some, option_map};
+ghost use Rattle.host_paths.specs.declared.host.HostCall.TheVariants as host;
+ghost use Rattle.new_folder.specs.NewFolder.{event, path_below};
 
 use fork_disk::Record;
+use host_paths::HostCalls;
 use std::collections::LinkedList;
+use std::fs::File;
 
 /// A call of the system in a folder that is written to.
 #[derive(Clone, Copy)]
@@ -36,6 +39,21 @@ pub(crate) fn note(log: &mut FolderCalls, noted: FolderNoted, bytes: &[u8])
     ensures { log.new.events ≡ (noted, bytes.now) ∷ log.old.events }
 {
     *log = Record::of_events_beside(log, &noted, &bytes);
+}
+
+/// Notes that these bytes were to be written to a file, by this call of the host.
+pub(crate) fn note_written(
+    log: &mut FolderCalls,
+    is_done: bool,
+    _file: &File,
+    bytes: &[u8],
+    _calls: &HostCalls,
+)
+    requires { _calls.now.events ≡ host.Write _file.now bytes.now is_done ∷ [] }
+    ensures { log.new.events ≡ event FolderCall.Write is_done bytes.now ∷ log.old.events }
+{
+    let call = FolderCall::Write;
+    note(log, FolderNoted { call, is_done }, bytes);
 }
 
 /// Notes a call with its answer, and what it was given: a name in a folder of this name.

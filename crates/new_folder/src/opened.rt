@@ -1,11 +1,13 @@
 //! An open folder, and what is made in it.
 
-ghost use Rattle.std.specs.Prelude.{◌≡◌, ◌⊎◌, true, IfOk, OnOk, option_map};
-ghost use Rattle.new_folder.specs.Checked.{IsOwned, Opens, OpensMade, is_made, is_shared};
-ghost use Rattle.new_folder.specs.NewFolder.{Makes, is_single, path_below, with_file};
+ghost use Rattle.std.specs.Prelude.{◌≡◌, ◌⊎◌, [], ◌∷◌, true, Some, is_ok, IfOk, OnOk, option_map, string_bytes};
+ghost use Rattle.host_paths.specs.declared.host.HostCall.TheVariants.{Empty};
+ghost use Rattle.new_folder.specs.Checked.{IsChecked, IsOwned, Opens, OpensMade, emptiness, is_made, is_shared, path_by, path_in};
+ghost use Rattle.new_folder.specs.NewFolder.{Makes, event, is_single, path_below, with_file};
 
-use crate::calls::{FolderCall, FolderCalls, FolderNoted, note, note_path};
+use crate::calls::{FolderCall, FolderCalls, FolderNoted, note, note_path, note_written};
 use crate::names::check_single;
+use fork_disk::Record;
 use host_paths::{Access, Found, HostCalls, found_at, found_of, open, write_whole};
 use std::alloc::AllocError;
 use std::fs::File;
@@ -15,6 +17,12 @@ use std::{fs, io};
 
 /// The bits of a mode that let others than the owner write.
 const OTHERS_WRITE: u32 = 0o022;
+
+/// Where Linux has the files that this process has open, by their numbers.
+const DESCRIPTORS: &str = "/proc/self/fd/";
+
+/// What is between a folder and a name in it.
+const SLASH: &str = "/";
 
 /// Why a folder isn't written to.
 #[derive(Debug, Drop)]
@@ -99,6 +107,79 @@ fn is_shared(found: &Found, owner: u32) -> bool
     found.user != owner && found.mode & OTHERS_WRITE != 0
 }
 
+/// The path of something in an open folder, by the number of its descriptor.
+fn path_by(rt: &HostRuntime, number: i32, name: &str) -> Result<String, AllocError>
+    ensures { IfOk result (λ path. string_bytes path ≡ path_by number name.now) }
+{
+    format!(in rt.alloc(); "{DESCRIPTORS}{number}{SLASH}{name}")
+}
+
+/// The same of the open folder itself.
+fn path_in(rt: &HostRuntime, folder: &File, name: &str) -> Result<String, AllocError>
+    ensures { IfOk result (λ path. string_bytes path ≡ path_in folder.now name.now) }
+{
+    path_by(rt, folder.as_raw_fd(), name)
+}
+
+/// Whether an open folder has nothing in it, by its path.
+fn is_empty(rt: &HostRuntime, folder: &File, path: &str, log: &mut HostCalls) -> io::Result<bool>
+    requires { path.now ≡ path_in folder.now [] }
+    ensures { log.new.events ≡ Empty folder.now (emptiness result) ∷ log.old.events }
+{
+    let is = match fs::read_dir(rt, path) {
+        Ok(mut entries) => Ok(entries.next().is_none()),
+        Err(error) => Err(error),
+    };
+    *log = Record::of_events_beside(log, folder, &is);
+    is
+}
+
+/// Refuses a folder that has something in it.
+fn check_empty(rt: &HostRuntime, folder: &File, log: &mut HostCalls) -> Result<(), NoNewFolder>
+    ensures { OnOk result (log.new.events ≡ Empty folder.now (Some true) ∷ log.old.events) }
+{
+    let path = path_in(rt, folder, "")?;
+    if is_empty(rt, folder, path.as_str(), log)? {
+        Ok(())
+    } else {
+        Err(NoNewFolder::NotEmpty)
+    }
+}
+
+/// Refuses one of another user where others may write.
+fn check_owner(folder: &File, owner: u32, log: &mut HostCalls) -> Result<(), NoNewFolder>
+    ensures { OnOk result (IsOwned owner folder.now log.old.events log.new.events) }
+{
+    if is_shared(&found_of(folder, log)?, owner) {
+        Err(NoNewFolder::Shared)
+    } else {
+        Ok(())
+    }
+}
+
+/// Refuses a folder that has something in it, and one of another user where others may write.
+pub(crate) fn check(
+    rt: &HostRuntime,
+    folder: &File,
+    owner: u32,
+    log: &mut HostCalls,
+) -> Result<(), NoNewFolder>
+    ensures { OnOk result (IsChecked owner folder.now log.old.events log.new.events) }
+{
+    check_empty(rt, folder, log)?;
+    check_owner(folder, owner, log)
+}
+
+/// Writes these bytes to a file that was made, and notes whether it did.
+fn write_made(file: &File, bytes: &[u8], longest: u64, log: &mut FolderCalls) -> io::Result<()>
+    ensures { log.new.events ≡ event FolderCall.Write (is_ok result) bytes.now ∷ log.old.events }
+{
+    let mut calls = HostCalls::new();
+    let written = write_whole(file, bytes, longest, &mut calls);
+    note_written(log, written.is_ok(), file, bytes, &calls);
+    written
+}
+
 /// A folder that is open: what is made in it is there, whatever its path leads to meanwhile.
 #[derive(Drop)]
 pub(crate) struct Opened<'a> {
@@ -106,65 +187,86 @@ pub(crate) struct Opened<'a> {
     pub(crate) folder: File,
     /// How long a file may be that this process writes.
     pub(crate) longest: u64,
+    /// The calls by which it was opened.
+    pub(crate) asked: HostCalls,
 }
 
 impl<'a> Opened<'a> {
-    /// The path of something in it, by way of its descriptor.
-    fn path_to(&self, name: &str) -> Result<String, AllocError> {
-        let number = self.folder.as_raw_fd();
-        format!(in self.rt.alloc(); "/proc/self/fd/{number}/{name}")
-    }
-
-    /// Refuses a folder that has something in it.
-    fn check_empty(&self) -> Result<(), NoNewFolder> {
-        let path = self.path_to("")?;
-        match fs::read_dir(self.rt, path.as_str())?.next() {
-            Some(_) => Err(NoNewFolder::NotEmpty),
-            None => Ok(()),
-        }
-    }
-
-    /// Refuses one of another user where others may write.
-    fn check_owner(&self, owner: u32, log: &mut HostCalls) -> Result<(), NoNewFolder>
-        ensures { OnOk result (IsOwned owner self.now.folder log.old.events log.new.events) }
-    {
-        if is_shared(&found_of(&self.folder, log)?, owner) {
-            Err(NoNewFolder::Shared)
-        } else {
-            Ok(())
-        }
-    }
-
-    /// Refuses a folder that has something in it, and one of another user where others may write.
-    pub(crate) fn check(&self, owner: u32, log: &mut HostCalls) -> Result<(), NoNewFolder>
-        ensures { OnOk result (IsOwned owner self.now.folder log.old.events log.new.events) }
-    {
-        self.check_empty()?;
-        self.check_owner(owner, log)
-    }
-
-    /// Makes a folder of this name, which isn't there.
-    pub(crate) fn create_folder(&self, name: &str) -> io::Result<()>
-        ensures { OnOk result (is_single name.now ≡ true) }
+    /// The path of something in it that isn't there, by this name.
+    fn new_path(&self, name: &str) -> io::Result<String>
+        ensures path { IfOk result (λ path. string_bytes path ≡ path_in self.now.folder name.now) }
+        ensures single { OnOk result (is_single name.now ≡ true) }
     {
         check_single(name)?;
-        let path = self.path_to(name)?;
-        fs::create_dir(self.rt, path.as_str())
+        Ok(path_in(self.rt, &self.folder, name)?)
+    }
+
+    /// Makes a folder of this name, which isn't there, and notes whether it did.
+    pub(crate) fn create_folder(&self, name: &str, log: &mut FolderCalls) -> io::Result<()>
+        ensures noted { log.new.events ≡ event FolderCall.MakeFolder (is_ok result) name.now ∷ log.old.events }
+        ensures single { OnOk result (is_single name.now ≡ true) }
+    {
+        let created = match self.new_path(name) {
+            Ok(path) => fs::create_dir(self.rt, path.as_str()),
+            Err(error) => Err(error),
+        };
+        let call = FolderCall::MakeFolder;
+        let is_done = created.is_ok();
+        note(log, FolderNoted { call, is_done }, name.as_bytes());
+        created
     }
 
     /// Opens the folder of this name, which this run made.
-    pub(crate) fn open_made(&self, name: &str, owner: u32) -> io::Result<File> {
-        let path = self.path_to(name)?;
-        open_made(self.rt, path.as_str(), owner, &mut HostCalls::new())
+    fn inner(&self, name: &str, owner: u32) -> io::Result<Opened<'a>>
+        ensures { IfOk result (λ inner. OpensMade (path_in self.now.folder name.now) owner inner.folder [] inner.asked.events) }
+    {
+        let path = path_in(self.rt, &self.folder, name)?;
+        let mut asked = HostCalls::new();
+        let folder = open_made(self.rt, path.as_str(), owner, &mut asked)?;
+        Ok(Opened {
+            rt: self.rt,
+            folder,
+            longest: self.longest,
+            asked,
+        })
     }
 
-    /// Makes an empty file of this name, which isn't there. No link is followed.
-    fn create_file(&self, name: &str) -> io::Result<File>
-        ensures { OnOk result (is_single name.now ≡ true) }
+    /// The same, and notes whether it did.
+    pub(crate) fn open_inner(
+        &self,
+        name: &str,
+        owner: u32,
+        log: &mut FolderCalls,
+    ) -> io::Result<Opened<'a>>
+        ensures opens { IfOk result (λ inner. OpensMade (path_in self.now.folder name.now) owner inner.folder [] inner.asked.events) }
+        ensures noted { log.new.events ≡ event FolderCall.OpenFolder (is_ok result) name.now ∷ log.old.events }
     {
-        check_single(name)?;
-        let path = self.path_to(name)?;
-        File::create_new(self.rt, path.as_str())
+        let inner = self.inner(name, owner);
+        let call = FolderCall::OpenFolder;
+        let is_done = inner.is_ok();
+        note(log, FolderNoted { call, is_done }, name.as_bytes());
+        inner
+    }
+
+    /// Makes an empty file of this name, which isn't there, and notes whether it did, where this folder is itself the
+    /// one of this name in the folder that is written to. No link is followed.
+    fn create_file(
+        &self,
+        folder: Option<&str>,
+        name: &str,
+        log: &mut FolderCalls,
+    ) -> io::Result<File>
+        ensures noted { log.new.events ≡ event FolderCall.MakeFile (is_ok result) (path_below (option_map (λ f. f.now) folder.entry) name.now) ∷ log.old.events }
+        ensures single { OnOk result (is_single name.now ≡ true) }
+    {
+        let created = match self.new_path(name) {
+            Ok(path) => File::create_new(self.rt, path.as_str()),
+            Err(error) => Err(error),
+        };
+        let call = FolderCall::MakeFile;
+        let is_done = created.is_ok();
+        note_path(log, FolderNoted { call, is_done }, folder, name);
+        created
     }
 
     /// Makes a file of these bytes, where this folder is itself the one of this name in the folder that is written to.
@@ -178,15 +280,7 @@ impl<'a> Opened<'a> {
         ensures made { Makes result (with_file (path_below (option_map (λ f. f.now) folder.entry) name.now) bytes.now log.old.events) log.old.events log.new.events }
         ensures single { OnOk result (is_single name.now ≡ true) }
     {
-        let created = self.create_file(name);
-        let call = FolderCall::MakeFile;
-        let is_done = created.is_ok();
-        note_path(log, FolderNoted { call, is_done }, folder, name);
-        let mut file = created?;
-        let written = write_whole(&mut file, bytes, self.longest);
-        let call = FolderCall::Write;
-        let is_done = written.is_ok();
-        note(log, FolderNoted { call, is_done }, bytes);
-        written
+        let file = self.create_file(folder, name, log)?;
+        write_made(&file, bytes, self.longest, log)
     }
 }

@@ -5,9 +5,7 @@ use Rattle.new_folder.proofs.opened.Opened.write_file.Goals as goal
 pub returns-in_err-file-clause-made : goal.returns-in_err-file-clause-made
 returns-in_err-file-clause-made c =
     let p = err_from_is_err_and c.from_residual.result c.from_residual.ensures.1 in
-    rw (p.1, c.note_path.ensures, c.is_ok-is_done.ensures.value, c.in_err-file.was) (first_failed _ _ _ _ _)
+    rw (p.1, c.in_err-file.ensures.noted) (first_failed _ _ _ _ _)
 
 pub returns-clause-made : goal.returns-clause-made
-returns-clause-made c =
-    rw (c.note.ensures, c.is_ok-is_done-2.ensures.value, c.note_path.ensures, c.is_ok-is_done.ensures.value, c.in_ok-file.was)
-    (second_by _ _ _ _ _ _)
+returns-clause-made c = rw (c.write_made.ensures, c.in_ok-file.ensures.noted) (second_by _ _ _ _ _ _)

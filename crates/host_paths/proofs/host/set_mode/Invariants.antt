@@ -1,0 +1,6 @@
+use Rattle.host_paths.specs.declared.host.HostCall.TheVariants.{SetMode}
+use Rattle.host_paths.proofs.host.set_mode.Given as goal
+use Rattle.std.proofs.Common.{◌∷◌, is_ok}
+
+abbrev pub ghost-of_events_beside : goal.ghost-of_events_beside
+ghost-of_events_beside a = SetMode a._first.now.0.now a._first.now.1 (is_ok a._second.now) ∷ a._past.now.events

@@ -1,0 +1,7 @@
+use Rattle.host_paths.specs.declared.host.HostCall.TheVariants.{Sync}
+use Rattle.host_paths.specs.Asked.{done_answer}
+use Rattle.host_paths.proofs.host.sync_file.Given as goal
+use Rattle.std.proofs.Common.{◌∷◌}
+
+abbrev pub ghost-of_events_beside : goal.ghost-of_events_beside
+ghost-of_events_beside a = Sync a._first.now (done_answer a._second.now) ∷ a._past.now.events
