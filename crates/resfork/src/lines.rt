@@ -1,7 +1,7 @@
 //! Bad words in messages: no line of a message ends within a word.
 
 ghost use Rattle.std.specs.Prelude.{◌≡◌};
-ghost use Rattle.resfork.specs.Statuses.{status_of_words};
+ghost use Rattle.file_acts.specs.Statuses.{status_of_words};
 
 use fork_words::asked::{NotAsked, asked_by};
 use path_text::in_lines;

@@ -1,20 +1,16 @@
 //! Resources as a text, and the fork of a text; and the fork of a folder to which resources were unpacked.
 
-ghost use Rattle.std.specs.Prelude.{◌≡◌, ◌∷◌, IfOk, true};
-ghost use Rattle.resfork.specs.Acts.{ReadsOnly, WritesNothing, bytes_read};
+ghost use Rattle.std.specs.Prelude.{◌≡◌, IfOk, true};
+ghost use Rattle.file_acts.specs.Acts.{ReadsOnly, WritesNothing};
 ghost use Rattle.resfork.specs.Running.{is_dry_place};
-ghost use Rattle.resfork.specs.declared.acts.Act.TheVariants as act;
 
-use crate::acts::{Acts, look_at, note_front, print};
-use crate::asked_change::{Copying, Packing, Place, Rezzing, Target};
-use crate::change::{say, write_output, written_file};
-use crate::host::Host;
-use crate::input::{NotRead, read, read_all, read_other, unread};
-use crate::message::{DONE, Problem};
-use crate::save::OUTPUT;
+use crate::table_use::{TableUse, check_kinds, use_table};
 use crate::unlisted::with_unlisted;
 use crate::work::{Failed, copy_rows, file_at_fault, of_file};
-use crate::{TableUse, check_kinds, use_table};
+use file_acts::acts::{Acts, look_at, print};
+use file_acts::host::{Host, OUTPUT};
+use file_acts::input::{read, read_front, read_other, unread};
+use file_acts::message::{DONE, Problem};
 use fork_bytes::layout::MAX_BYTES;
 use fork_bytes::table::{Row, Table};
 use fork_change::{Choice, Collision, Refusal};
@@ -25,13 +21,13 @@ use fork_folder::rows::{Entry, packed};
 use fork_list::Quoted;
 use fork_list::letters::Letters;
 use fork_rez::{derez, rez};
+use fork_saves::change::{say, write_output, written_file};
+use fork_words::work::{Copying, Packing, Place, Rezzing, Target};
 use mac_base::resource::ResType;
 use mac_files::kind_of;
 use path_text::FileName;
 use std::alloc::{AllocError, Global};
 use std::collections::{BTreeMap, BTreeSet};
-use std::fs;
-use std::io::{Error, ErrorKind, Read};
 
 /// The file that says what isn't in the files of the resources.
 pub const MANIFEST: &str = "resources.json";
@@ -51,7 +47,7 @@ impl TableUse for Derez<'_> {
 
     ghost only_reads = { λ _. ⊤ };
 
-    fn done(
+    fn apply(
         &self,
         host: &Host<'_>,
         _bytes: &[u8],
@@ -332,30 +328,6 @@ fn write_and_tell(
     let name = FileName(written_file(target));
     let text = format!(in host.alloc(); "{name}: {count} resources, {length} bytes\n")?;
     say(host, target, &text, acts)
-}
-
-/// The bytes of the file of a path, or of its beginning where they are more than so many. What is no file, as a pipe, is
-/// refused before it is opened, and so is a file that is longer than the limit.
-fn read_beginning(host: &Host<'_>, path: &str, most: u64) -> Result<Vec<u8>, NotRead> {
-    let found = fs::metadata(host.rt, path)?;
-    if !found.is_file() {
-        return Err(NotRead::Failed(Error::new(ErrorKind::InvalidInput, "it is no regular file")));
-    }
-    if found.len() > host.limit {
-        return Err(NotRead::TooLong(host.limit));
-    }
-    let file = fs::open(host.rt, path)?;
-    Ok(read_all(host.alloc(), file.take(most), 0)?)
-}
-
-/// The same, noted.
-fn read_front(host: &Host<'_>, path: &str, most: u64, acts: &mut Acts) -> Result<Vec<u8>, NotRead>
-    ensures notes { acts.new.events ≡ act.ReadFront path.now most (bytes_read result) ∷ acts.old.events }
-    ensures quiet { ReadsOnly path.now acts.old.events acts.new.events }
-{
-    let read = read_beginning(host, path, most);
-    note_front(acts, path, most, &read);
-    read
 }
 
 /// Reads a file in a folder into these files, by its path there. The result is how many bytes it has; one more than so

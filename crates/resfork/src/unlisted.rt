@@ -1,51 +1,20 @@
 //! Files in a folder that its `resources.json` doesn't name.
 
-ghost use Rattle.std.specs.Prelude.{◌≡◌, ◌∷◌};
-ghost use Rattle.resfork.specs.Acts.{ReadsOnly, WritesNothing};
-ghost use Rattle.resfork.specs.declared.acts.Act.TheVariants as act;
+ghost use Rattle.file_acts.specs.Acts.{WritesNothing};
 
-use crate::acts::{Acts, look_at, note_listed};
-use crate::host::Host;
-use crate::input::{NotRead, unread};
-use crate::message::Problem;
 use crate::rez::MANIFEST;
+use file_acts::acts::{Acts, look_at};
+use file_acts::host::Host;
+use file_acts::input::names_in;
+use file_acts::message::Problem;
 use fork_folder::manifest::Packing;
 use fork_folder::rows::{Entry, PackFault};
 use fork_folder::with_added;
 use std::alloc::AllocError;
 use std::collections::BTreeSet;
-use std::{fs, io};
 
 /// Paths of files below a folder.
 type Paths = BTreeSet<String>;
-
-/// What is in a folder, by name, but for what begins with a dot.
-fn names_at(host: &Host<'_>, path: &str) -> io::Result<Vec<String>> {
-    let alloc = host.alloc();
-    let mut names = Vec::new(alloc);
-    for entry in fs::read_dir(host.rt, path)? {
-        let entry = entry?;
-        let name = entry.file_name();
-        if !name.starts_with(".") {
-            let name = String::from_str(alloc, name)?;
-            names.push(name).map_err(AllocError::from)?;
-        }
-    }
-    Ok(names)
-}
-
-/// The same, noted.
-fn names_in(host: &Host<'_>, path: &str, acts: &mut Acts) -> Result<Vec<String>, Problem>
-    ensures notes { acts.new.events ≡ act.Listed path.now ∷ acts.old.events }
-    ensures quiet { ReadsOnly path.now acts.old.events acts.new.events }
-{
-    let names = names_at(host, path);
-    note_listed(acts, path);
-    match names {
-        Ok(names) => Ok(names),
-        Err(error) => Err(unread(host, path, NotRead::Failed(error))),
-    }
-}
 
 /// The paths that the manifest names.
 fn listed_paths(host: &Host<'_>, entries: &[Entry]) -> Result<Paths, AllocError> {

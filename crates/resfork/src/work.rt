@@ -1,25 +1,26 @@
 //! What the commands do that change files, and those that compare them.
 
 ghost use Rattle.std.specs.Prelude.{◌≡◌, ◌≢◌, ◌≤◌, IfErr, IfOk, Ok, Err, option_map, true};
-ghost use Rattle.resfork.specs.Acts.{ReadsBoth, ReadsNothing, ReadsOnly, WritesNothing};
-ghost use Rattle.resfork.specs.Problems.{file_at_fault};
+ghost use Rattle.file_acts.specs.Acts.{ReadsBoth, ReadsNothing, ReadsOnly, WritesNothing};
+ghost use Rattle.resfork.specs.Faults.{file_at_fault};
 ghost use Rattle.resfork.specs.Running.{ReadsWork, is_dry_place, writes_nothing};
 
-use crate::acts::{Acts, look_at};
-use crate::asked_change::{Comparison, Copying, Packing, Putting, Removing, Setting, Target, Work};
-use crate::change::{change, create};
-use crate::convert::convert;
-use crate::host::Host;
-use crate::input::read;
-use crate::message::{CANT_GO_ON, DONE, NOT_FOUND, Problem};
 use crate::rez::{Like, derez_file, pack_folder, rez_file};
-use crate::{INPUT, finish, fork_found, table_found, write_text};
+use file_acts::acts::{Acts, look_at, write_text};
+use file_acts::found::{fork_found, table_found};
+use file_acts::host::Host;
+use file_acts::input::read;
+use file_acts::message::{CANT_GO_ON, DONE, NOT_FOUND, Problem, finish};
 use fork_bytes::table::{Row, Table};
 use fork_change::{Choice, Differences, Refusal};
 use fork_edit::difference::text_of;
 use fork_edit::edit::{Edit, second_of, unmet};
 use fork_edit::file::NotWritten;
 use fork_report::{Form, difference_line};
+use fork_saves::change::{change_file, create_file};
+use fork_saves::convert::convert;
+use fork_words::INPUT;
+use fork_words::work::{Comparison, Copying, Packing, Putting, Removing, Setting, Target, Work};
 use mac_base::error::HostFull;
 use std::alloc::Global;
 
@@ -31,11 +32,11 @@ pub struct Failed<'a> {
 }
 
 /// Does what is asked for. The result is the exit status.
-pub fn work(host: &Host<'_>, work: Work<'_>, acts: &mut Acts) -> u8
+pub fn run_work(host: &Host<'_>, work: Work<'_>, acts: &mut Acts) -> u8
     ensures few { result ≤ CANT_GO_ON }
     ensures quiet { writes_nothing work.entry ≡ true → ReadsWork work.entry acts.old.events acts.new.events }
 {
-    match done(host, work, acts) {
+    match try_work(host, work, acts) {
         Ok(status) => status,
         Err(Failed { file, problem }) => finish(host, file, Err(problem)),
     }
@@ -53,7 +54,7 @@ pub fn of_file<'a, T>(file: &'a str, done: Result<T, Problem>) -> Result<T, Fail
 }
 
 /// Does what is asked for. The result is the exit status, or which file is in the way.
-fn done<'a>(host: &Host<'_>, work: Work<'a>, acts: &mut Acts) -> Result<u8, Failed<'a>>
+fn try_work<'a>(host: &Host<'_>, work: Work<'a>, acts: &mut Acts) -> Result<u8, Failed<'a>>
     ensures few { IfOk result (λ status. status ≤ NOT_FOUND) }
     ensures quiet { writes_nothing work.entry ≡ true → ReadsWork work.entry acts.old.events acts.new.events }
 {
@@ -109,7 +110,7 @@ fn remove<'a>(host: &Host<'_>, asked: &Removing<'a>, acts: &mut Acts) -> Result<
     let edit = Edit::Remove(asked.whats.as_slice());
     of_file(
         asked.target.file,
-        change(host, &asked.target, &[], edit, acts),
+        change_file(host, &asked.target, &[], edit, acts),
     )
 }
 
@@ -123,7 +124,7 @@ fn set<'a>(host: &Host<'_>, asked: Setting<'a>, acts: &mut Acts) -> Result<u8, F
         what: asked.what,
         change: asked.change,
     };
-    of_file(target.file, change(host, &target, &[], edit, acts))
+    of_file(target.file, change_file(host, &target, &[], edit, acts))
 }
 
 /// Copies resources of a file to another.
@@ -156,7 +157,7 @@ pub fn copy_rows<'a>(
     };
     of_file(
         asked.target.file,
-        change(host, &asked.target, rows, edit, acts),
+        change_file(host, &asked.target, rows, edit, acts),
     )
 }
 
@@ -275,11 +276,11 @@ fn put_into(
     ensures dry { target.now.is_dry ≡ true → WritesNothing acts.old.events acts.new.events }
 {
     if target.file == INPUT {
-        return change(host, target, &[], edit, acts);
+        return change_file(host, target, &[], edit, acts);
     }
     match look_at(host, target.file, acts) {
-        Ok(None) if creates => create(host, target, &[], edit, acts),
+        Ok(None) if creates => create_file(host, target, &[], edit, acts),
         Ok(None) => Err(Problem::NoFile),
-        _ => change(host, target, &[], edit, acts),
+        _ => change_file(host, target, &[], edit, acts),
     }
 }

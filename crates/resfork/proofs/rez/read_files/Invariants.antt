@@ -1,4 +1,4 @@
-use Rattle.resfork.specs.Acts.{WritesNothing}
+use Rattle.file_acts.specs.Acts.{WritesNothing}
 use Rattle.resfork.proofs.rez.read_files.Given as goal
 
 abbrev pub invariant-loop-entry : goal.invariant-loop-entry

@@ -1,4 +1,4 @@
-use Rattle.resfork.specs.Acts.{WritesNothing}
+use Rattle.file_acts.specs.Acts.{WritesNothing}
 use Rattle.resfork.proofs.unlisted.unlisted.Given as goal
 
 abbrev pub invariant-loop-name : goal.invariant-loop-name

@@ -1,0 +1,34 @@
+//! What a file holds: its resource fork, and the table of that; or why they aren't read.
+
+use crate::host::Host;
+use crate::message::Problem;
+use fork_answer::{Failure, read_table, resource_fork};
+use fork_bytes::table::Table;
+use fork_report::Refusal;
+use mac_files::OldFile;
+
+/// Why something isn't shown of a file with these bytes.
+pub fn refused_as(host: &Host<'_>, failure: Failure, bytes: &[u8]) -> Problem {
+    let refusal = Refusal::of_failure(host.alloc(), failure, bytes);
+    Problem::of_refusal(host.alloc(), refusal, bytes)
+}
+
+/// The file that bytes hold, which has a resource fork.
+pub fn fork_found<'a>(host: &Host<'_>, bytes: &'a [u8]) -> Result<OldFile<'a>, Problem> {
+    match resource_fork(host.alloc(), bytes) {
+        Ok(found) => Ok(found),
+        Err(fault) => Err(refused_as(host, Failure::NoFork(fault), bytes)),
+    }
+}
+
+/// The table of the resource fork that was found in a file.
+pub fn table_found<'a>(
+    host: &Host<'_>,
+    found: &'a OldFile<'_>,
+    bytes: &[u8],
+) -> Result<Table<'a>, Problem> {
+    match read_table(host.alloc(), found.fork()) {
+        Ok(table) => Ok(table),
+        Err(fault) => Err(refused_as(host, Failure::Fork(fault), bytes)),
+    }
+}

@@ -1,0 +1,8 @@
+use Rattle.std.proofs.Common.{subst, sym}
+use Rattle.std.specs.Prelude.{IfOk}
+use Rattle.fork_saves.specs.declared.ready.Ready.{Ready}
+use Rattle.fork_saves.specs.Saving.{SavesReady}
+use Rattle.fork_saves.proofs.ready.Ready.put.Goals as goal
+
+pub returns-in-File-clause-saves : goal.returns-in-File-clause-saves
+returns-in-File-clause-saves c = λ for. subst (λ (it : Ready). IfOk c.put.result (λ done. SavesReady it c.put.new.acts.events)) (sym c.in-File.is) c.put.ensures.saves

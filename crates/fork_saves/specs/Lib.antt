@@ -1,0 +1,3 @@
+pub mod Saving
+pub mod Changing
+pub mod Order

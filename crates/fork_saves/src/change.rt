@@ -1,0 +1,268 @@
+//! Files changed: read whole, changed, and written in their own place or in another.
+
+ghost use Rattle.std.specs.Prelude.{◌≡◌, ◌≢◌, ℕ, List, [], IfErr, IfOk, IfSome, Ok, codes, true};
+ghost use Rattle.fork_edit.specs.Changes.{Comes};
+ghost use Rattle.file_acts.specs.Acts.{ReadsNothing, WritesNothing};
+ghost use Rattle.file_acts.specs.Saved.{JustRead, JustSaved, SavedAndSaid, ShowsSaved};
+ghost use Rattle.fork_saves.specs.Changing.{EndsBy, IsForFile, IsForOther, IsIdle, written_file};
+ghost use Rattle.fork_saves.specs.Saving.{IsNotSaved};
+
+use crate::save::{Renewal, open_held, renew, save_to};
+use file_acts::acts::{Acts, write_text};
+use file_acts::host::{Host, OUTPUT};
+use file_acts::input::{read, read_held};
+use file_acts::message::{DONE, Problem};
+use file_replace::Held;
+use fork_bytes::table::Row;
+use fork_edit::change::{NewFile, changed};
+use fork_edit::edit::Edit;
+use fork_words::work::Target;
+
+/// Changes the resources of a file, in its own place or in another. The result is the exit status.
+pub fn change_file(
+    host: &Host<'_>,
+    target: &Target<'_>,
+    from: &[Row<'_>],
+    edit: Edit<'_>,
+    acts: &mut Acts,
+) -> Result<u8, Problem>
+    ensures done { IfOk result (λ status. status ≡ DONE) }
+    ensures dry { target.now.is_dry ≡ true → WritesNothing acts.old.events acts.new.events }
+    ensures saved { IsForFile target.now → IfOk result (λ _. (old : List ℕ) × EndsBy old from.now edit.entry acts.new.events) }
+    ensures seen { IsForFile target.now → ShowsSaved acts.old.events acts.new.events }
+{
+    if target.is_dry || target.output.is_some() {
+        change_other(host, target, from, edit, acts)
+    } else {
+        change_in_place(host, target, from, edit, acts)
+    }
+}
+
+/// Changes what is read of a file, and writes it to another, or only says what would change.
+fn change_other(
+    host: &Host<'_>,
+    target: &Target<'_>,
+    from: &[Row<'_>],
+    edit: Edit<'_>,
+    acts: &mut Acts,
+) -> Result<u8, Problem>
+    ensures done { IfOk result (λ status. status ≡ DONE) }
+    ensures dry { target.now.is_dry ≡ true → WritesNothing acts.old.events acts.new.events }
+    ensures saved { IsForOther target.now → IfOk result (λ _. (old : List ℕ) × EndsBy old from.now edit.entry acts.new.events) }
+    ensures seen { IsForOther target.now → ShowsSaved acts.old.events acts.new.events }
+{
+    let old = read(host, target.file, acts)?;
+    change_into(host, target, &old, from, edit, acts)
+}
+
+/// Makes a new file with these resources.
+pub fn create_file(
+    host: &Host<'_>,
+    target: &Target<'_>,
+    from: &[Row<'_>],
+    edit: Edit<'_>,
+    acts: &mut Acts,
+) -> Result<u8, Problem>
+    ensures done { IfOk result (λ status. status ≡ DONE) }
+    ensures dry { target.now.is_dry ≡ true → WritesNothing acts.old.events acts.new.events }
+    ensures saved { IsForFile target.now → target.now.file.now ≢ codes "-" → IfOk result (λ _. EndsBy [] from.now edit.entry acts.new.events) }
+    ensures seen { IsForFile target.now → target.now.file.now ≢ codes "-" → ShowsSaved acts.old.events acts.new.events }
+{
+    let target = Target {
+        output: target.output.or(Some(target.file)),
+        ..*target
+    };
+    change_into(host, &target, &[], from, edit, acts)
+}
+
+/// Changes a file in its own place. Where nothing changes, it isn't touched.
+fn change_in_place(
+    host: &Host<'_>,
+    target: &Target<'_>,
+    from: &[Row<'_>],
+    edit: Edit<'_>,
+    acts: &mut Acts,
+) -> Result<u8, Problem>
+    ensures done { IfOk result (λ status. status ≡ DONE) }
+    ensures saved { IfOk result (λ _. (old : List ℕ) × EndsBy old from.now edit.entry acts.new.events) }
+    ensures seen { ShowsSaved acts.old.events acts.new.events }
+{
+    let held = open_held(host, target.file, acts)?;
+    change_held(host, target, held, from, edit, acts)
+}
+
+/// Changes a file that is held.
+fn change_held(
+    host: &Host<'_>,
+    target: &Target<'_>,
+    held: Held,
+    from: &[Row<'_>],
+    edit: Edit<'_>,
+    acts: &mut Acts,
+) -> Result<u8, Problem>
+    ensures done { IfOk result (λ status. status ≡ DONE) }
+    ensures saved { IfOk result (λ _. (old : List ℕ) × EndsBy old from.now edit.entry acts.new.events) }
+    ensures seen { ShowsSaved acts.old.events acts.new.events }
+{
+    let old = read_held(host, held.file(), acts)?;
+    renew_by(host, target, held, &old, (from, edit), acts)
+}
+
+/// Changes a file that is held and has these bytes, by an edit to which resources are copied from these rows.
+fn renew_by(
+    host: &Host<'_>,
+    target: &Target<'_>,
+    held: Held,
+    old: &[u8],
+    change: (&[Row<'_>], Edit<'_>),
+    acts: &mut Acts,
+) -> Result<u8, Problem>
+    ensures done { IfOk result (λ status. status ≡ DONE) }
+    ensures saved { JustRead old.now acts.old.events → IfOk result (λ _. EndsBy old.now change.entry.0.now change.entry.1 acts.new.events) }
+    ensures seen { JustRead old.now acts.old.events → ShowsSaved acts.old.events acts.new.events }
+{
+    let (from, edit) = change;
+    match changed_of(host, old, from, edit)? {
+        Some(changed) => replace(host, target, held, old, &changed, acts),
+        None => Ok(DONE),
+    }
+}
+
+/// Puts a changed file in the place of one that is held and has these bytes, and says what changed.
+fn replace(
+    host: &Host<'_>,
+    target: &Target<'_>,
+    held: Held,
+    old: &[u8],
+    changed: &NewFile,
+    acts: &mut Acts,
+) -> Result<u8, Problem>
+    ensures done { IfOk result (λ status. status ≡ DONE) }
+    ensures saved { JustRead old.now acts.old.events → IfOk result (λ _. SavedAndSaid changed.now.file.items acts.new.events) }
+    ensures seen { JustRead old.now acts.old.events → ShowsSaved acts.old.events acts.new.events }
+{
+    let renewal = Renewal {
+        old,
+        new: &changed.file,
+        keeps_old: target.keeps_old,
+    };
+    renew(host, target.file, held, &renewal, acts)?;
+    say_after(host, target, &changed.told, acts)
+}
+
+/// What becomes of a file, or None where nothing changes.
+fn changed_of(
+    host: &Host<'_>,
+    old: &[u8],
+    from: &[Row<'_>],
+    edit: Edit<'_>,
+) -> Result<Option<NewFile>, Problem>
+    ensures { IfOk result (λ changed. Comes old.now from.now edit.entry (Ok changed)) }
+{
+    let alloc = host.alloc();
+    match changed(alloc, old, from, edit) {
+        Ok(changed) => Ok(changed),
+        Err(fault) => Err(Problem::of_change(alloc, fault, old)),
+    }
+}
+
+/// Writes bytes with changes to another file, or only says what would change.
+fn change_into(
+    host: &Host<'_>,
+    target: &Target<'_>,
+    old: &[u8],
+    from: &[Row<'_>],
+    edit: Edit<'_>,
+    acts: &mut Acts,
+) -> Result<u8, Problem>
+    ensures done { IfOk result (λ status. status ≡ DONE) }
+    ensures dry { target.now.is_dry ≡ true → WritesNothing acts.old.events acts.new.events }
+    ensures saved { IsForOther target.now → IfOk result (λ _. EndsBy old.now from.now edit.entry acts.new.events) }
+    ensures seen { IsForOther target.now → ShowsSaved acts.old.events acts.new.events }
+{
+    match changed_of(host, old, from, edit)? {
+        Some(changed) => write_changed(host, target, &changed, acts),
+        None => {
+            write_output(host, target, old, acts)?;
+            Ok(DONE)
+        }
+    }
+}
+
+/// Writes a changed file, and says what changed.
+fn write_changed(
+    host: &Host<'_>,
+    target: &Target<'_>,
+    changed: &NewFile,
+    acts: &mut Acts,
+) -> Result<u8, Problem>
+    ensures done { IfOk result (λ status. status ≡ DONE) }
+    ensures dry { target.now.is_dry ≡ true → WritesNothing acts.old.events acts.new.events }
+    ensures saved { IsForOther target.now → IfOk result (λ _. SavedAndSaid changed.now.file.items acts.new.events) }
+    ensures seen { IsForOther target.now → ShowsSaved acts.old.events acts.new.events }
+{
+    write_output(host, target, &changed.file, acts)?;
+    say(host, target, &changed.told, acts)
+}
+
+/// The file that is written: another one, or the one that is read.
+pub fn written_file<'a>(target: &Target<'a>) -> &'a str
+    ensures { result.now ≡ written_file target.now }
+{
+    target.output.unwrap_or(target.file)
+}
+
+/// Writes the file that a command names, unless it only says what it would do.
+pub fn write_output(
+    host: &Host<'_>,
+    target: &Target<'_>,
+    bytes: &[u8],
+    acts: &mut Acts,
+) -> Result<(), Problem>
+    ensures idle { IsIdle target.now → (result ≡ Ok tt) × (acts.new.events ≡ acts.old.events) }
+    ensures dry { target.now.is_dry ≡ true → WritesNothing acts.old.events acts.new.events }
+    ensures cause { IfErr result (λ why. IfSome target.now.output (λ path. IsNotSaved path.now why)) }
+    ensures saved { IsForOther target.now → IfOk result (λ _. JustSaved bytes.now acts.new.events) }
+    ensures seen { IsForOther target.now → ShowsSaved acts.old.events acts.new.events }
+{
+    match target.output {
+        Some(output) if !target.is_dry => save_to(host, output, bytes, acts),
+        _ => Ok(()),
+    }
+}
+
+/// Says what was done, or would be, unless the file itself goes to the standard output.
+pub fn say(
+    host: &Host<'_>,
+    target: &Target<'_>,
+    text: &String,
+    acts: &mut Acts,
+) -> Result<u8, Problem>
+    ensures done { IfOk result (λ status. status ≡ DONE) }
+    ensures quiet { target.now.is_quiet ≡ true → (result ≡ Ok DONE) × (acts.new.events ≡ acts.old.events) }
+    ensures reads { ReadsNothing acts.old.events acts.new.events }
+    ensures saved { (bytes : List ℕ) → JustSaved bytes acts.old.events → IfOk result (λ _. SavedAndSaid bytes acts.new.events) }
+    ensures seen { (bytes : List ℕ) → JustSaved bytes acts.old.events → ShowsSaved acts.old.events acts.new.events }
+{
+    if !target.is_quiet && (target.is_dry || target.output != Some(OUTPUT)) {
+        write_text(host, text, acts)?;
+    }
+    Ok(DONE)
+}
+
+/// The same, where the file is changed already.
+fn say_after(
+    host: &Host<'_>,
+    target: &Target<'_>,
+    text: &String,
+    acts: &mut Acts,
+) -> Result<u8, Problem>
+    ensures done { IfOk result (λ status. status ≡ DONE) }
+    ensures saved { (bytes : List ℕ) → JustSaved bytes acts.old.events → IfOk result (λ _. SavedAndSaid bytes acts.new.events) }
+    ensures seen { (bytes : List ℕ) → JustSaved bytes acts.old.events → ShowsSaved acts.old.events acts.new.events }
+{
+    match say(host, target, text, acts) {
+        Ok(status) => Ok(status),
+        Err(problem) => Err(problem.after_change()),
+    }
+}

@@ -1,7 +1,0 @@
-use Rattle.resfork.specs.Acts.{bytes_read}
-use Rattle.resfork.specs.declared.acts.Act.TheVariants as act
-use Rattle.resfork.proofs.acts.note_read.Given as goal
-use Rattle.std.proofs.Common.{◌∷◌}
-
-abbrev pub ghost-of_events_beside : goal.ghost-of_events_beside
-ghost-of_events_beside a = act.Read a._first.now.now (bytes_read a._second.now) ∷ a._past.now.events

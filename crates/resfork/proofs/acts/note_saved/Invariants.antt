@@ -1,6 +1,0 @@
-use Rattle.resfork.specs.declared.acts.Act.TheVariants as act
-use Rattle.resfork.proofs.acts.note_saved.Given as goal
-use Rattle.std.proofs.Common.{◌∷◌}
-
-abbrev pub ghost-of_events_beside : goal.ghost-of_events_beside
-ghost-of_events_beside a = act.Saved a._first.now.events ∷ a._past.now.events

@@ -1,8 +1,0 @@
-use Rattle.std.proofs.Common.{subst, sym}
-use Rattle.std.specs.Prelude.{IfOk}
-use Rattle.resfork.specs.declared.ready.Ready.{Ready}
-use Rattle.resfork.specs.Saving.{SavesReady}
-use Rattle.resfork.proofs.ready.Ready.put.Goals as goal
-
-pub returns-in-File-clause-saves : goal.returns-in-File-clause-saves
-returns-in-File-clause-saves c = λ for. subst (λ (it : Ready). IfOk c.put.result (λ done. SavesReady it c.put.new.acts.events)) (sym c.in-File.is) c.put.ensures.saves
