@@ -11,13 +11,14 @@ import re
 TOP = os.path.dirname(os.path.dirname(os.path.abspath(__file__)))
 LIST = os.path.join(TOP, "tools", "trusted.txt")
 LEFT_OUT = ("container_tests/", "paint_trace/", "script_tests/")
+OWN_CRATES = ("file_acts/", "fork_saves/", "resfork/")
 FUNCTION = re.compile(r"\s*(?:pub(?:\(\w+\))? )?(?:const )?(?:extern \"C\" )?fn (\w+)")
 CALL = re.compile(
     r"\bfs::[a-z_]+\(|\bFile::(?:open|create|create_new)\b|\bOpenOptions::new|\.metadata\(\)|\.sync_all\(|\.try_lock\(|\.set_len\(|\.read_exact_at\("
     r"|\.write_all_at\(|\.read_to_end\(|\.stdin\(|\.stdout\(|\.stderr\(|\.e?print(?:ln)?\(|\benv::[a-z_]+\(|\bfchown\(|\.set_permissions\(|\.is_terminal\("
     r"|\bio::Write::write|Record::of_events_beside\("
 )
-# Of resfork also those that write to its output, and those that make a record of calls, which another is to note.
+# Of resfork and its own crates also those that write to its output, and those that make a record of calls, which another is to note.
 OWN = re.compile(r"\.output\(\)|\b(?:Held|Folder|Host)Calls::new\(")
 HEAD = """# The functions that call the system, and those that note in a record what only clauses read, each with the first sentence of what it does. It is
 # trusted that each does this and makes no other call; everything else is proved on top of it. Written by tools/trusted.py.
@@ -46,7 +47,7 @@ def trusted():
         for at, line in enumerate(lines):
             if start := FUNCTION.match(line):
                 found = (start[1], at)
-            calls = CALL.search(line) or name.startswith("resfork/") and OWN.search(line)
+            calls = CALL.search(line) or name.startswith(OWN_CRATES) and OWN.search(line)
             if found and not re.match(r"\s*(//|use |ghost )", line) and calls:
                 yield f"{name.replace('/src/', ': ').removesuffix('.rt')}: {found[0]}: {sentence(lines, found[1])}"
                 found = None

@@ -1,5 +1,5 @@
-//! Files that are changed, made anew or written in another container: each path has the old file or the new one, and what
-//! is said was saved before.
+//! Files that are changed, made anew or written in another container: each path has the old file or the new one, and
+//! what is said was saved before.
 #![tactic(auto)]
 
 pub mod change;
