@@ -117,7 +117,7 @@ pub fn note_unpacked(acts: &mut Acts, calls: &FolderCalls)
     *acts = Record::of_events_beside(acts, calls, &());
 }
 
-/// What a path leads to over links, if anything.
+/// What a path leads to over links, if anything; an error where the system doesn't say.
 pub fn look_at(host: &Host<'_>, path: &str, acts: &mut Acts) -> io::Result<Option<Found>>
     ensures asks { acts.new.events ≡ act.Asked path.now (answer_of result) ∷ acts.old.events }
     ensures quiet { ReadsOnly path.now acts.old.events acts.new.events }
@@ -132,6 +132,7 @@ pub fn look_at(host: &Host<'_>, path: &str, acts: &mut Acts) -> io::Result<Optio
 /// a one can't be opened either.
 pub fn identity_of(host: &Host<'_>, path: &str, acts: &mut Acts) -> Option<Identity>
     ensures quiet { WritesNothing acts.old.events acts.new.events }
+    ensures seen { ShowsSaved acts.old.events acts.new.events }
 {
     if path == OUTPUT {
         return None;
@@ -145,7 +146,7 @@ pub fn identity_of(host: &Host<'_>, path: &str, acts: &mut Acts) -> Option<Ident
     }
 }
 
-/// Writes bytes to the standard output.
+/// Writes bytes to the standard output. An error where it doesn't take all of them.
 pub fn write_out(host: &Host<'_>, bytes: &[u8], acts: &mut Acts) -> io::Result<()>
     ensures prints { acts.new.events ≡ act.Printed bytes.now (is_ok result) ∷ acts.old.events }
     ensures quiet { ReadsNothing acts.old.events acts.new.events }
@@ -155,7 +156,7 @@ pub fn write_out(host: &Host<'_>, bytes: &[u8], acts: &mut Acts) -> io::Result<(
     done
 }
 
-/// The same, or the problem.
+/// The same: `Problem::Print` where it doesn't take all of them.
 pub fn print(host: &Host<'_>, bytes: &[u8], acts: &mut Acts) -> Result<(), Problem>
     ensures prints { Prints bytes.now result acts.old.events acts.new.events }
     ensures quiet { ReadsNothing acts.old.events acts.new.events }
@@ -166,7 +167,7 @@ pub fn print(host: &Host<'_>, bytes: &[u8], acts: &mut Acts) -> Result<(), Probl
     }
 }
 
-/// Writes a text in one piece.
+/// The same of a text, in one piece.
 pub fn write_text(host: &Host<'_>, text: &String, acts: &mut Acts) -> Result<(), Problem>
     ensures prints { Prints (string_bytes text.now) result acts.old.events acts.new.events }
     ensures quiet { ReadsNothing acts.old.events acts.new.events }

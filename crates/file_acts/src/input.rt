@@ -96,7 +96,8 @@ fn read_whole(host: &Host<'_>, path: &str, acts: &mut Acts) -> Result<Vec<u8>, N
     read
 }
 
-/// The bytes of the file of this name, or of the standard input.
+/// The bytes of the file of this name, or of the standard input, which `-` is. `Problem::Read` where a call fails, the
+/// host has no memory, or there are more bytes than the host's limit.
 pub fn read(host: &Host<'_>, file: &str, acts: &mut Acts) -> Result<Vec<u8>, Problem>
     ensures reads { Reads file.now result acts.old.events acts.new.events }
     ensures quiet { ReadsOnly file.now acts.old.events acts.new.events }
@@ -108,7 +109,7 @@ pub fn read(host: &Host<'_>, file: &str, acts: &mut Acts) -> Result<Vec<u8>, Pro
     }
 }
 
-/// The bytes of a file that belongs to another.
+/// The same of a file that belongs to another, with its path in the problem: `Problem::Unread`.
 pub fn read_other(host: &Host<'_>, path: &str, acts: &mut Acts) -> Result<Vec<u8>, Problem>
     ensures reads { ReadsOther path.now result acts.old.events acts.new.events }
     ensures quiet { ReadsOnly path.now acts.old.events acts.new.events }
@@ -120,7 +121,7 @@ pub fn read_other(host: &Host<'_>, path: &str, acts: &mut Acts) -> Result<Vec<u8
     }
 }
 
-/// The bytes of a file that is held.
+/// The bytes of a file that is held. `Problem::Read` comes as above.
 pub fn read_held(host: &Host<'_>, file: &File, acts: &mut Acts) -> Result<Vec<u8>, Problem>
     ensures reads { ReadsHeld file.now result acts.old.events acts.new.events }
     ensures just { IfOk result (λ bytes. JustRead bytes.items acts.new.events) }
@@ -160,13 +161,14 @@ pub fn read_front(
 ) -> Result<Vec<u8>, NotRead>
     ensures notes { acts.new.events ≡ act.ReadFront path.now most (bytes_read result) ∷ acts.old.events }
     ensures quiet { ReadsOnly path.now acts.old.events acts.new.events }
+    ensures seen { ShowsSaved acts.old.events acts.new.events }
 {
     let read = read_beginning(host, path, most);
     note_front(acts, path, most, &read);
     read
 }
 
-/// That a file which belongs to another isn't read.
+/// That a file which belongs to another isn't read: `Problem::Unread`, or `HostFull` without memory for its path.
 pub fn unread(host: &Host<'_>, path: &str, error: NotRead) -> Problem
     ensures { IsToldUnread result }
 {
@@ -196,6 +198,7 @@ fn names_at(host: &Host<'_>, path: &str) -> io::Result<Vec<String>> {
 pub fn names_in(host: &Host<'_>, path: &str, acts: &mut Acts) -> Result<Vec<String>, Problem>
     ensures notes { acts.new.events ≡ act.Listed path.now ∷ acts.old.events }
     ensures quiet { ReadsOnly path.now acts.old.events acts.new.events }
+    ensures seen { ShowsSaved acts.old.events acts.new.events }
 {
     let names = names_at(host, path);
     note_listed(acts, path);
