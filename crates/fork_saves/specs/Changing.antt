@@ -5,6 +5,7 @@ use Rattle.fork_bytes.specs.Rows.{Row}
 use Rattle.fork_edit.specs.Changes.{Comes}
 use Rattle.fork_edit.specs.declared.change.NewFile.{NewFile}
 use Rattle.fork_edit.specs.declared.edit.Edit.{Edit}
+use Rattle.fork_words.specs.declared.work.Conversion.{Conversion}
 use Rattle.fork_words.specs.declared.work.Target.{Target}
 use Rattle.file_acts.specs.Acts.{Log}
 use Rattle.file_acts.specs.Saved.{JustRead, SavedAndSaid}
@@ -26,10 +27,14 @@ IsForFile target = (target.is_dry ≡ false) × IfSome target.output (λ path. p
 abbrev pub IsForOther : Target → Type 0
 IsForOther target = IsForFile target × (is_some target.output ≡ true)
 
--- nothing is written: no other file is named, or it is only said what would be done
-abbrev pub IsIdle : Target → Type 0
-IsIdle target = (target.output ≡ None) ⊎ (target.is_dry ≡ true)
-
 -- the file that is written: another one, or the one that is read
 abbrev pub written_file : Target → List ℕ
 written_file target = option_map_or (λ path. path.now) target.output target.file.now
+
+-- and of a file in another container, and its data fork
+abbrev pub IsForNew : Conversion → Type 0
+IsForNew asked = (asked.target.is_dry ≡ false) × (written_file asked.target ≢ codes "-") × IfSome asked.data (λ path. path.now ≢ codes "-")
+
+-- nothing is written: no other file is named, or it is only said what would be done
+abbrev pub IsIdle : Target → Type 0
+IsIdle target = (target.output ≡ None) ⊎ (target.is_dry ≡ true)

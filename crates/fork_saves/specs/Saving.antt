@@ -9,7 +9,7 @@ use Rattle.file_replace.specs.Replacing.{prepared_calls}
 use Rattle.file_acts.specs.declared.message.Problem.{Problem}
 use Rattle.file_acts.specs.declared.message.Problem.TheVariants as problem
 use Rattle.file_acts.specs.Acts.{Log}
-use Rattle.file_acts.specs.Saved.{ArePut, JustSaved}
+use Rattle.file_acts.specs.Saved.{ArePut, JustRead, JustSaved, SavedAndSaid}
 use Rattle.fork_saves.specs.declared.ready.Ready.{Ready}
 use Rattle.fork_saves.specs.declared.ready.Ready.TheVariants as ready
 
@@ -43,6 +43,10 @@ AreRenewed before after calls = ((before ≡ after) × (calls ≡ [])) ⊎ ArePu
 -- what was ready is saved now
 abbrev pub SavesReady : Ready → Log → Type 0
 SavesReady it new = (bytes : List ℕ) → IsReadyOf bytes it → JustSaved bytes new
+
+-- a file was saved, or it was read, and nothing had to change
+abbrev pub EndsSaved : Log → Type 0
+EndsSaved new = (bytes : List ℕ) × (SavedAndSaid bytes new ⊎ JustRead bytes new)
 
 -- why bytes aren't written to a file of this name, or to the standard output, which "-" is
 abbrev pub IsNotSaved : List ℕ → Problem → Type 0

@@ -1,8 +1,10 @@
 //! A file is written in another container.
 
-ghost use Rattle.std.specs.Prelude.{◌≡◌, Err, IfOk, Some, option_map, true};
+ghost use Rattle.std.specs.Prelude.{◌≡◌, ℕ, List, Err, IfOk, Some, option_map, true};
 ghost use Rattle.file_acts.specs.Acts.{ReadsNothing, WritesNothing};
-ghost use Rattle.fork_saves.specs.Changing.{written_file};
+ghost use Rattle.file_acts.specs.Saved.{JustSaved, SavedAndSaid, ShowsSaved, SomeSaved};
+ghost use Rattle.fork_saves.specs.Changing.{IsForNew, written_file};
+ghost use Rattle.fork_saves.specs.Saving.{EndsSaved, IsForPath, IsWhole};
 
 use crate::change::{say, written_file};
 use crate::order::{Order, order_of};
@@ -109,6 +111,7 @@ fn data_for(
     acts: &mut Acts,
 ) -> Result<Vec<u8>, Problem>
     ensures quiet { WritesNothing acts.old.events acts.new.events }
+    ensures seen { ShowsSaved acts.old.events acts.new.events }
 {
     match (asked.data, holds_data(asked.kind), is_inside(bytes)) {
         (Some(path), true, false) if file.data_fork.is_empty() => read_other(host, path, acts),
@@ -127,6 +130,7 @@ fn order_for(
 ) -> Result<Order, Problem>
     ensures one_file { path.now ≡ written_file asked.now.target → result ≡ Err Problem.OneFile }
     ensures quiet { WritesNothing acts.old.events acts.new.events }
+    ensures seen { ShowsSaved acts.old.events acts.new.events }
 {
     let output = written_file(&asked.target);
     if path == output {
@@ -145,6 +149,7 @@ fn order_for(
 fn order_if(host: &Host<'_>, asked: &Conversion<'_>, acts: &mut Acts) -> Result<Order, Problem>
     ensures one_file { option_map (λ path. path.now) asked.now.data ≡ Some (written_file asked.now.target) → result ≡ Err Problem.OneFile }
     ensures quiet { WritesNothing acts.old.events acts.new.events }
+    ensures seen { ShowsSaved acts.old.events acts.new.events }
 {
     match asked.data {
         Some(path) => order_for(host, asked, path, acts),
@@ -161,7 +166,10 @@ fn write_both<'a>(
     new: &'a [u8],
     data: &'a [u8],
     acts: &mut Acts,
-) -> Result<(), Problem> {
+) -> Result<(), Problem>
+    ensures saved { IsForNew asked.now → IfOk result (λ _. SomeSaved acts.new.events) }
+    ensures seen { IsForNew asked.now → ShowsSaved acts.old.events acts.new.events }
+{
     let output = written_file(&asked.target);
     match asked.data {
         Some(path) if !holds_data(asked.kind) => {
@@ -180,7 +188,10 @@ fn put_in(
     output: Ready<'_>,
     data: Ready<'_>,
     acts: &mut Acts,
-) -> Result<(), Problem> {
+) -> Result<(), Problem>
+    ensures saved { IsForPath output.entry → IsForPath «data».entry → IsWhole output.entry → IsWhole «data».entry → IfOk result (λ _. SomeSaved acts.new.events) }
+    ensures seen { IsForPath output.entry → IsForPath «data».entry → ShowsSaved acts.old.events acts.new.events }
+{
     match order {
         Order::OutputFirst => put_two(host, output, data, acts),
         Order::DataFirst => put_two(host, data, output, acts),
@@ -197,6 +208,8 @@ fn write_converted(
     acts: &mut Acts,
 ) -> Result<(), Problem>
     ensures dry { asked.now.target.is_dry ≡ true → WritesNothing acts.old.events acts.new.events }
+    ensures saved { IsForNew asked.now → IfOk result (λ _. SomeSaved acts.new.events) }
+    ensures seen { IsForNew asked.now → ShowsSaved acts.old.events acts.new.events }
 {
     if asked.target.is_dry {
         return Ok(());
@@ -227,6 +240,8 @@ pub fn convert(host: &Host<'_>, asked: &Conversion<'_>, acts: &mut Acts) -> Resu
     ensures done { IfOk result (λ status. status ≡ DONE) }
     ensures one_file { option_map (λ path. path.now) asked.now.data ≡ Some (written_file asked.now.target) → result ≡ Err Problem.OneFile }
     ensures dry { asked.now.target.is_dry ≡ true → WritesNothing acts.old.events acts.new.events }
+    ensures saved { IsForNew asked.now → IfOk result (λ _. EndsSaved acts.new.events) }
+    ensures seen { IsForNew asked.now → ShowsSaved acts.old.events acts.new.events }
 {
     let order = order_if(host, asked, acts)?;
     convert_in(host, asked, order, acts)
@@ -241,6 +256,8 @@ fn convert_in(
 ) -> Result<u8, Problem>
     ensures done { IfOk result (λ status. status ≡ DONE) }
     ensures dry { asked.now.target.is_dry ≡ true → WritesNothing acts.old.events acts.new.events }
+    ensures saved { IsForNew asked.now → IfOk result (λ _. EndsSaved acts.new.events) }
+    ensures seen { IsForNew asked.now → ShowsSaved acts.old.events acts.new.events }
 {
     let bytes = read(host, asked.target.file, acts)?;
     convert_bytes(host, asked, order, &bytes, acts)
@@ -256,6 +273,8 @@ fn convert_bytes(
 ) -> Result<u8, Problem>
     ensures done { IfOk result (λ status. status ≡ DONE) }
     ensures dry { asked.now.target.is_dry ≡ true → WritesNothing acts.old.events acts.new.events }
+    ensures saved { IsForNew asked.now → IfOk result (λ _. EndsSaved acts.new.events) }
+    ensures seen { IsForNew asked.now → ShowsSaved acts.old.events acts.new.events }
 {
     check_fork(host, bytes)?;
     match OldFile::open(host.alloc(), bytes) {
@@ -275,6 +294,8 @@ fn convert_file(
 ) -> Result<u8, Problem>
     ensures done { IfOk result (λ status. status ≡ DONE) }
     ensures dry { asked.now.target.is_dry ≡ true → WritesNothing acts.old.events acts.new.events }
+    ensures saved { IsForNew asked.now → IfOk result (λ _. EndsSaved acts.new.events) }
+    ensures seen { IsForNew asked.now → ShowsSaved acts.old.events acts.new.events }
 {
     let data = data_for(host, asked, bytes, &file, acts)?;
     convert_with(host, asked, order, (bytes, file, &data), acts)
@@ -290,6 +311,8 @@ fn convert_with(
 ) -> Result<u8, Problem>
     ensures done { IfOk result (λ status. status ≡ DONE) }
     ensures dry { asked.now.target.is_dry ≡ true → WritesNothing acts.old.events acts.new.events }
+    ensures saved { IsForNew asked.now → IfOk result (λ _. EndsSaved acts.new.events) }
+    ensures seen { IsForNew asked.now → ShowsSaved acts.old.events acts.new.events }
 {
     let (bytes, file, data) = found;
     let name = name_for(host.alloc(), asked, &file)?;
@@ -317,6 +340,8 @@ fn write_and_say(
 ) -> Result<u8, Problem>
     ensures done { IfOk result (λ status. status ≡ DONE) }
     ensures dry { asked.now.target.is_dry ≡ true → WritesNothing acts.old.events acts.new.events }
+    ensures saved { IsForNew asked.now → IfOk result (λ _. EndsSaved acts.new.events) }
+    ensures seen { IsForNew asked.now → ShowsSaved acts.old.events acts.new.events }
 {
     write_converted(host, asked, order, &new.file, data, acts)?;
     say_converted(host, asked, new, acts)
@@ -331,6 +356,8 @@ fn say_converted(
 ) -> Result<u8, Problem>
     ensures done { IfOk result (λ status. status ≡ DONE) }
     ensures quiet { ReadsNothing acts.old.events acts.new.events }
+    ensures saved { (bytes : List ℕ) → JustSaved bytes acts.old.events → IfOk result (λ _. SavedAndSaid bytes acts.new.events) }
+    ensures seen { (bytes : List ℕ) → JustSaved bytes acts.old.events → ShowsSaved acts.old.events acts.new.events }
 {
     let output = FileName(written_file(&asked.target));
     if !new.lost.is_empty() {

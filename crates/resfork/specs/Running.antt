@@ -1,5 +1,5 @@
 -- What the program reads and writes, by what is asked of it.
-use Rattle.std.specs.Prelude.{Bool, true, false, is_none, ℕ, List}
+use Rattle.std.specs.Prelude.{⊥, Bool, true, false, is_none, ℕ, List}
 use Rattle.fork_words.specs.declared.asked.Asked.{Asked}
 use Rattle.fork_words.specs.declared.asked.Asked.TheVariants as asked
 use Rattle.fork_words.specs.declared.asked.Salvage.{Salvage}
@@ -9,6 +9,7 @@ use Rattle.fork_words.specs.declared.work.Place.TheVariants.{New, Into}
 use Rattle.fork_words.specs.declared.work.Work.{Work}
 use Rattle.fork_words.specs.declared.work.Work.TheVariants as work
 use Rattle.file_acts.specs.Acts.{Log, ReadsBoth, ReadsNothing, ReadsOnly, ReadsThese, WritesNothing}
+use Rattle.fork_saves.specs.Changing.{IsForFile, IsForNew, IsForOther}
 
 -- nothing is written in this place
 abbrev pub is_dry_place : Place → Bool
@@ -59,3 +60,25 @@ ReadsAsked (asked.View viewing) = ReadsOnly viewing.file.now
 ReadsAsked (asked.Unpack unpacking file) = ReadsOnly file.now
 ReadsAsked (asked.Change change) = ReadsWork change
 ReadsAsked (asked.Tell text) = ReadsNothing
+
+-- a place where resources go, which isn't the standard output
+abbrev pub IsForPlace : Place → Type 0
+IsForPlace (New target is_forced) = IsForOther target
+IsForPlace (Into target on_collision) = IsForFile target
+
+-- a command changes files
+abbrev pub ChangesFiles : Work → Type 0
+ChangesFiles (work.Put asked) = IsForFile asked.target
+ChangesFiles (work.Remove asked) = IsForFile asked.target
+ChangesFiles (work.Set asked) = IsForFile asked.target
+ChangesFiles (work.Copy asked) = IsForFile asked.target
+ChangesFiles (work.Compare asked) = ⊥
+ChangesFiles (work.Derez asked) = ⊥
+ChangesFiles (work.Rez asked) = IsForPlace asked.place
+ChangesFiles (work.Pack asked) = IsForPlace asked.place
+ChangesFiles (work.Convert asked) = IsForNew asked
+
+-- the same of whatever is asked for
+abbrev pub ChangesAsked : Asked → Type 0
+ChangesAsked (asked.Change change) = ChangesFiles change
+ChangesAsked other = ⊥

@@ -2,7 +2,9 @@
 #![tactic(auto)]
 
 ghost use Rattle.file_acts.specs.Acts.{ReadsNothing};
-ghost use Rattle.resfork.specs.Running.{ReadsAsked, only_reads};
+ghost use Rattle.file_acts.specs.Saved.{ShowsSaved};
+ghost use Rattle.fork_saves.specs.Saving.{EndsSaved};
+ghost use Rattle.resfork.specs.Running.{ChangesAsked, ReadsAsked, only_reads};
 ghost use Rattle.std.specs.Prelude.{◌≡◌, ◌≤◌, true};
 
 mod lines;
@@ -61,6 +63,10 @@ fn run(rt: &HostRuntime) -> u8
 fn run_asked<W: World>(host: &Host<'_>, asked: Asked<'_>, acts: &mut Acts) -> u8
     ensures few { result ≤ CANT_GO_ON }
     ensures quiet { only_reads asked.entry ≡ true → ReadsAsked asked.entry acts.old.events acts.new.events }
+    // A command that changes files ends with status 0 only after the last one was saved, or had nothing to change; and
+    // whatever it printed, it had saved a file just before.
+    ensures saved { ChangesAsked asked.entry → result ≡ DONE → EndsSaved acts.new.events }
+    ensures seen { ChangesAsked asked.entry → ShowsSaved acts.old.events acts.new.events }
 {
     match asked {
         Asked::Show(asked) => show_all::<W>(host, &asked, acts),

@@ -2,7 +2,10 @@
 
 ghost use Rattle.std.specs.Prelude.{◌≡◌, IfOk, true};
 ghost use Rattle.file_acts.specs.Acts.{ReadsOnly, WritesNothing};
-ghost use Rattle.resfork.specs.Running.{is_dry_place};
+ghost use Rattle.file_acts.specs.Saved.{SavedAndSaid, ShowsSaved};
+ghost use Rattle.fork_saves.specs.Saving.{EndsSaved};
+ghost use Rattle.fork_saves.specs.Changing.{IsForFile, IsForOther};
+ghost use Rattle.resfork.specs.Running.{IsForPlace, is_dry_place};
 
 use crate::table_use::{TableUse, check_kinds, use_table};
 use crate::unlisted::with_unlisted;
@@ -78,6 +81,8 @@ pub fn derez_file(
 pub fn rez_file<'a>(host: &Host<'_>, asked: Rezzing<'a>, acts: &mut Acts) -> Result<u8, Failed<'a>>
     ensures done { IfOk result (λ status. status ≡ DONE) }
     ensures dry { is_dry_place asked.entry.place ≡ true → WritesNothing acts.old.events acts.new.events }
+    ensures saved { IsForPlace asked.entry.place → IfOk result (λ _. EndsSaved acts.new.events) }
+    ensures seen { IsForPlace asked.entry.place → ShowsSaved acts.old.events acts.new.events }
 {
     let alloc = host.alloc();
     let source = asked.text;
@@ -105,6 +110,8 @@ fn deliver<'a>(
 ) -> Result<u8, Failed<'a>>
     ensures done { IfOk result (λ status. status ≡ DONE) }
     ensures dry { is_dry_place place.entry ≡ true → WritesNothing acts.old.events acts.new.events }
+    ensures saved { IsForPlace place.entry → IfOk result (λ _. EndsSaved acts.new.events) }
+    ensures seen { IsForPlace place.entry → ShowsSaved acts.old.events acts.new.events }
 {
     match place {
         Place::New { target, is_forced } => {
@@ -143,6 +150,8 @@ fn put_rows<'a>(
 ) -> Result<u8, Failed<'a>>
     ensures done { IfOk result (λ status. status ≡ DONE) }
     ensures dry { ends.entry.1.is_dry ≡ true → WritesNothing acts.old.events acts.new.events }
+    ensures saved { IsForFile ends.entry.1 → IfOk result (λ _. EndsSaved acts.new.events) }
+    ensures seen { IsForFile ends.entry.1 → ShowsSaved acts.old.events acts.new.events }
 {
     let (source, target) = ends;
     if rows.is_empty() {
@@ -199,6 +208,7 @@ fn check_free(
     acts: &mut Acts,
 ) -> Result<(), Problem>
     ensures quiet { WritesNothing acts.old.events acts.new.events }
+    ensures seen { ShowsSaved acts.old.events acts.new.events }
 {
     if name == OUTPUT {
         return Ok(());
@@ -242,6 +252,7 @@ fn check_unless(
     acts: &mut Acts,
 ) -> Result<(), Problem>
     ensures quiet { WritesNothing acts.old.events acts.new.events }
+    ensures seen { ShowsSaved acts.old.events acts.new.events }
 {
     if is_forced {
         return Ok(());
@@ -286,6 +297,8 @@ fn write_table(
 ) -> Result<u8, Problem>
     ensures done { IfOk result (λ status. status ≡ DONE) }
     ensures dry { target.now.is_dry ≡ true → WritesNothing acts.old.events acts.new.events }
+    ensures saved { IsForOther target.now → IfOk result (λ _. EndsSaved acts.new.events) }
+    ensures seen { IsForOther target.now → ShowsSaved acts.old.events acts.new.events }
 {
     let alloc = host.alloc();
     check_together(alloc, table.rows.as_slice())?;
@@ -306,6 +319,8 @@ fn write_new(
 ) -> Result<u8, Problem>
     ensures done { IfOk result (λ status. status ≡ DONE) }
     ensures dry { target.now.is_dry ≡ true → WritesNothing acts.old.events acts.new.events }
+    ensures saved { IsForOther target.now → IfOk result (λ _. SavedAndSaid file.now acts.new.events) }
+    ensures seen { IsForOther target.now → ShowsSaved acts.old.events acts.new.events }
 {
     check_unless(host, is_forced, written_file(target), table, file, acts)?;
     let count = table.rows.as_slice().len();
@@ -322,6 +337,8 @@ fn write_and_tell(
 ) -> Result<u8, Problem>
     ensures done { IfOk result (λ status. status ≡ DONE) }
     ensures dry { target.now.is_dry ≡ true → WritesNothing acts.old.events acts.new.events }
+    ensures saved { IsForOther target.now → IfOk result (λ _. SavedAndSaid file.now acts.new.events) }
+    ensures seen { IsForOther target.now → ShowsSaved acts.old.events acts.new.events }
 {
     write_output(host, target, file, acts)?;
     let length = file.len();
@@ -341,6 +358,7 @@ fn add_file(
     acts: &mut Acts,
 ) -> Result<usize, Problem>
     ensures quiet { WritesNothing acts.old.events acts.new.events }
+    ensures seen { ShowsSaved acts.old.events acts.new.events }
 {
     let alloc = host.alloc();
     let path = format!(in alloc; "{folder}/{file}")?;
@@ -364,6 +382,7 @@ fn read_files(
     acts: &mut Acts,
 ) -> Result<Files, Problem>
     ensures quiet { WritesNothing acts.old.events acts.new.events }
+    ensures seen { ShowsSaved acts.old.events acts.new.events }
 {
     let mut files = Files::new(host.alloc());
     let mut left = MOST_BYTES;
@@ -385,6 +404,7 @@ fn read_files(
 /// What `resources.json` says of a folder.
 fn packing_of(host: &Host<'_>, folder: &str, acts: &mut Acts) -> Result<Manifest, Problem>
     ensures quiet { WritesNothing acts.old.events acts.new.events }
+    ensures seen { ShowsSaved acts.old.events acts.new.events }
 {
     let alloc = host.alloc();
     let path = format!(in alloc; "{folder}/{MANIFEST}")?;
@@ -405,6 +425,7 @@ fn packing_in(
     acts: &mut Acts,
 ) -> Result<(Manifest, Files), Problem>
     ensures quiet { WritesNothing acts.old.events acts.new.events }
+    ensures seen { ShowsSaved acts.old.events acts.new.events }
 {
     let packing = packing_of(host, folder, acts)?;
     let packing = with_unlisted(host, folder, packing, adds, acts)?;
@@ -422,6 +443,8 @@ pub fn pack_folder<'a>(
 ) -> Result<u8, Failed<'a>>
     ensures done { IfOk result (λ status. status ≡ DONE) }
     ensures dry { is_dry_place asked.entry.place ≡ true → WritesNothing acts.old.events acts.new.events }
+    ensures saved { IsForPlace asked.entry.place → IfOk result (λ _. EndsSaved acts.new.events) }
+    ensures seen { IsForPlace asked.entry.place → ShowsSaved acts.old.events acts.new.events }
 {
     let folder = asked.folder;
     let (packing, files) = of_file(folder, packing_in(host, folder, asked.adds, acts))?;

@@ -1,6 +1,7 @@
 //! Files in a folder that its `resources.json` doesn't name.
 
 ghost use Rattle.file_acts.specs.Acts.{WritesNothing};
+ghost use Rattle.file_acts.specs.Saved.{ShowsSaved};
 
 use crate::rez::MANIFEST;
 use file_acts::acts::{Acts, look_at};
@@ -36,6 +37,7 @@ fn add_inner(
     acts: &mut Acts,
 ) -> Result<(), Problem>
     ensures quiet { WritesNothing acts.old.events acts.new.events }
+    ensures seen { ShowsSaved acts.old.events acts.new.events }
 {
     let alloc = host.alloc();
     let path = format!(in alloc; "{folder}/{kind}")?;
@@ -56,6 +58,7 @@ fn is_folder_in(
     acts: &mut Acts,
 ) -> Result<bool, AllocError>
     ensures quiet { WritesNothing acts.old.events acts.new.events }
+    ensures seen { ShowsSaved acts.old.events acts.new.events }
 {
     let path = format!(in host.alloc(); "{folder}/{name}")?;
     match look_at(host, path.as_str(), acts) {
@@ -72,6 +75,7 @@ fn unlisted(
     acts: &mut Acts,
 ) -> Result<Paths, Problem>
     ensures quiet { WritesNothing acts.old.events acts.new.events }
+    ensures seen { ShowsSaved acts.old.events acts.new.events }
 {
     let listed = listed_paths(host, entries)?;
     let mut others = Paths::new(host.alloc());
@@ -95,6 +99,7 @@ pub fn with_unlisted(
     acts: &mut Acts,
 ) -> Result<Packing, Problem>
     ensures quiet { WritesNothing acts.old.events acts.new.events }
+    ensures seen { ShowsSaved acts.old.events acts.new.events }
 {
     let alloc = host.alloc();
     let others = unlisted(host, folder, packing.entries.as_slice(), acts)?;

@@ -3,7 +3,10 @@
 ghost use Rattle.std.specs.Prelude.{◌≡◌, ◌≢◌, ◌≤◌, IfErr, IfOk, Ok, Err, option_map, true};
 ghost use Rattle.file_acts.specs.Acts.{ReadsBoth, ReadsNothing, ReadsOnly, WritesNothing};
 ghost use Rattle.resfork.specs.Faults.{file_at_fault};
-ghost use Rattle.resfork.specs.Running.{ReadsWork, is_dry_place, writes_nothing};
+ghost use Rattle.file_acts.specs.Saved.{ShowsSaved};
+ghost use Rattle.fork_saves.specs.Saving.{EndsSaved};
+ghost use Rattle.fork_saves.specs.Changing.{IsForFile};
+ghost use Rattle.resfork.specs.Running.{ChangesFiles, IsForPlace, ReadsWork, is_dry_place, writes_nothing};
 
 use crate::rez::{Like, derez_file, pack_folder, rez_file};
 use file_acts::acts::{Acts, look_at, write_text};
@@ -35,6 +38,8 @@ pub struct Failed<'a> {
 pub fn run_work(host: &Host<'_>, work: Work<'_>, acts: &mut Acts) -> u8
     ensures few { result ≤ CANT_GO_ON }
     ensures quiet { writes_nothing work.entry ≡ true → ReadsWork work.entry acts.old.events acts.new.events }
+    ensures saved { ChangesFiles work.entry → result ≡ DONE → EndsSaved acts.new.events }
+    ensures seen { ChangesFiles work.entry → ShowsSaved acts.old.events acts.new.events }
 {
     match try_work(host, work, acts) {
         Ok(status) => status,
@@ -57,6 +62,8 @@ pub fn of_file<'a, T>(file: &'a str, done: Result<T, Problem>) -> Result<T, Fail
 fn try_work<'a>(host: &Host<'_>, work: Work<'a>, acts: &mut Acts) -> Result<u8, Failed<'a>>
     ensures few { IfOk result (λ status. status ≤ NOT_FOUND) }
     ensures quiet { writes_nothing work.entry ≡ true → ReadsWork work.entry acts.old.events acts.new.events }
+    ensures saved { ChangesFiles work.entry → IfOk result (λ _. EndsSaved acts.new.events) }
+    ensures seen { ChangesFiles work.entry → ShowsSaved acts.old.events acts.new.events }
 {
     match work {
         Work::Put(asked) => put(host, asked, acts),
@@ -78,6 +85,8 @@ fn try_work<'a>(host: &Host<'_>, work: Work<'a>, acts: &mut Acts) -> Result<u8, 
 fn put<'a>(host: &Host<'_>, asked: Putting<'a>, acts: &mut Acts) -> Result<u8, Failed<'a>>
     ensures done { IfOk result (λ status. status ≡ DONE) }
     ensures dry { asked.entry.target.is_dry ≡ true → WritesNothing acts.old.events acts.new.events }
+    ensures saved { IsForFile asked.entry.target → IfOk result (λ _. EndsSaved acts.new.events) }
+    ensures seen { IsForFile asked.entry.target → ShowsSaved acts.old.events acts.new.events }
 {
     let input = asked.input.unwrap_or(INPUT);
     let bytes = of_file(input, read(host, input, acts))?;
@@ -93,6 +102,8 @@ fn put_bytes(
 ) -> Result<u8, Problem>
     ensures done { IfOk result (λ status. status ≡ DONE) }
     ensures dry { asked.entry.target.is_dry ≡ true → WritesNothing acts.old.events acts.new.events }
+    ensures saved { IsForFile asked.entry.target → IfOk result (λ _. EndsSaved acts.new.events) }
+    ensures seen { IsForFile asked.entry.target → ShowsSaved acts.old.events acts.new.events }
 {
     let edit = Edit::Put {
         change: asked.change,
@@ -106,6 +117,8 @@ fn put_bytes(
 fn remove<'a>(host: &Host<'_>, asked: &Removing<'a>, acts: &mut Acts) -> Result<u8, Failed<'a>>
     ensures done { IfOk result (λ status. status ≡ DONE) }
     ensures dry { asked.now.target.is_dry ≡ true → WritesNothing acts.old.events acts.new.events }
+    ensures saved { IsForFile asked.now.target → IfOk result (λ _. EndsSaved acts.new.events) }
+    ensures seen { IsForFile asked.now.target → ShowsSaved acts.old.events acts.new.events }
 {
     let edit = Edit::Remove(asked.whats.as_slice());
     of_file(
@@ -118,6 +131,8 @@ fn remove<'a>(host: &Host<'_>, asked: &Removing<'a>, acts: &mut Acts) -> Result<
 fn set<'a>(host: &Host<'_>, asked: Setting<'a>, acts: &mut Acts) -> Result<u8, Failed<'a>>
     ensures done { IfOk result (λ status. status ≡ DONE) }
     ensures dry { asked.entry.target.is_dry ≡ true → WritesNothing acts.old.events acts.new.events }
+    ensures saved { IsForFile asked.entry.target → IfOk result (λ _. EndsSaved acts.new.events) }
+    ensures seen { IsForFile asked.entry.target → ShowsSaved acts.old.events acts.new.events }
 {
     let target = asked.target;
     let edit = Edit::Set {
@@ -131,6 +146,8 @@ fn set<'a>(host: &Host<'_>, asked: Setting<'a>, acts: &mut Acts) -> Result<u8, F
 fn copy_from<'a>(host: &Host<'_>, asked: &Copying<'a>, acts: &mut Acts) -> Result<u8, Failed<'a>>
     ensures done { IfOk result (λ status. status ≡ DONE) }
     ensures dry { asked.now.target.is_dry ≡ true → WritesNothing acts.old.events acts.new.events }
+    ensures saved { IsForFile asked.now.target → IfOk result (λ _. EndsSaved acts.new.events) }
+    ensures seen { IsForFile asked.now.target → ShowsSaved acts.old.events acts.new.events }
 {
     let from = asked.from;
     let bytes = of_file(from, read(host, from, acts))?;
@@ -148,6 +165,8 @@ pub fn copy_rows<'a>(
 ) -> Result<u8, Failed<'a>>
     ensures done { IfOk result (λ status. status ≡ DONE) }
     ensures dry { asked.now.target.is_dry ≡ true → WritesNothing acts.old.events acts.new.events }
+    ensures saved { IsForFile asked.now.target → IfOk result (λ _. EndsSaved acts.new.events) }
+    ensures seen { IsForFile asked.now.target → ShowsSaved acts.old.events acts.new.events }
 {
     let chosen = asked.chosen.as_slice();
     of_file(asked.from, can_copy(host, chosen, rows))?;
@@ -241,6 +260,8 @@ fn difference_text(
 fn pack<'a>(host: &Host<'_>, asked: Packing<'a>, acts: &mut Acts) -> Result<u8, Failed<'a>>
     ensures done { IfOk result (λ status. status ≡ DONE) }
     ensures dry { is_dry_place asked.entry.place ≡ true → WritesNothing acts.old.events acts.new.events }
+    ensures saved { IsForPlace asked.entry.place → IfOk result (λ _. EndsSaved acts.new.events) }
+    ensures seen { IsForPlace asked.entry.place → ShowsSaved acts.old.events acts.new.events }
 {
     let Some(name) = asked.like else {
         return pack_folder(host, asked, None, acts);
@@ -274,6 +295,8 @@ fn put_into(
 ) -> Result<u8, Problem>
     ensures done { IfOk result (λ status. status ≡ DONE) }
     ensures dry { target.now.is_dry ≡ true → WritesNothing acts.old.events acts.new.events }
+    ensures saved { IsForFile target.now → IfOk result (λ _. EndsSaved acts.new.events) }
+    ensures seen { IsForFile target.now → ShowsSaved acts.old.events acts.new.events }
 {
     if target.file == INPUT {
         return change_file(host, target, &[], edit, acts);
