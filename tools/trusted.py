@@ -14,8 +14,8 @@ LEFT_OUT = ("container_tests/", "paint_trace/", "script_tests/")
 FUNCTION = re.compile(r"\s*(?:pub(?:\(\w+\))? )?(?:const )?(?:extern \"C\" )?fn (\w+)")
 CALL = re.compile(
     r"\bfs::[a-z_]+\(|\bFile::(?:open|create|create_new)\b|\bOpenOptions::new|\.metadata\(\)|\.sync_all\(|\.try_lock\(|\.set_len\(|\.read_exact_at\("
-    r"|\.write_all_at\(|\.read_to_end\(|\.stdin\(|\.stdout\(|\.stderr\(|\.e?print(?:ln)?\(|\benv::[a-z_]+\(|\bfchown\(|\.set_permissions\(|\.is_terminal\("
-    r"|\bio::Write::write|Record::of_events_beside\("
+    r"|\.write_all_at\(|\.write_all\([^,]*\)|\.read_to_end\(|\.stdin\(|\.stdout\(|\.stderr\(|\.e?print(?:ln)?\(|\benv::[a-z_]+\(|\bfchown\("
+    r"|\.set_permissions\(|\.is_terminal\(|\bio::Write::write|Record::of_events_beside\("
 )
 # Of resfork also those that write to its output, and those that make a record of calls, which another is to note.
 OWN = re.compile(r"\.output\(\)|\b(?:Held|Folder|Host)Calls::new\(")
