@@ -1,8 +1,8 @@
 #!/usr/bin/env python3
 """Writes tools/trusted.txt: the functions that call the system, and those that note in a record what only clauses read.
 
-No contract can say of them that they make the calls that they note, and no others, so each is to be read. The functions of tests and
-of crates that no program needs are left out.
+No contract can say of them that they make the calls that they note, and no others, so each is to be read. So is each that begins such a
+record, since a call in a record of its own is noted nowhere else. The functions of tests and of crates that no program needs are left out.
 """
 import glob
 import os
@@ -15,13 +15,13 @@ OWN_CRATES = ("file_acts/", "fork_saves/", "resfork/")
 FUNCTION = re.compile(r"\s*(?:pub(?:\(\w+\))? )?(?:const )?(?:extern \"C\" )?fn (\w+)")
 CALL = re.compile(
     r"\bfs::[a-z_]+\(|\bFile::(?:open|create|create_new)\b|\bOpenOptions::new|\.metadata\(\)|\.sync_all\(|\.try_lock\(|\.set_len\(|\.read_exact_at\("
-    r"|\.write_all_at\(|\.read_to_end\(|\.stdin\(|\.stdout\(|\.stderr\(|\.e?print(?:ln)?\(|\benv::[a-z_]+\(|\bfchown\(|\.set_permissions\(|\.is_terminal\("
-    r"|\bio::Write::write|Record::of_events_beside\("
+    r"|\.write_all_at\(|\.write_all\([^,]*\)|\.read_to_end\(|\.stdin\(|\.stdout\(|\.stderr\(|\.e?print(?:ln)?\(|\benv::[a-z_]+\(|\bfchown\("
+    r"|\.set_permissions\(|\.is_terminal\(|\bio::Write::write|Record::of_events_beside\(|\bRecord::new\(|\b(?:Held|Folder|Host|File)Calls::new\("
 )
-# Of resfork and its own crates also those that write to its output, and those that make a record of calls, which another is to note.
-OWN = re.compile(r"\.output\(\)|\b(?:Held|Folder|Host)Calls::new\(")
-HEAD = """# The functions that call the system, and those that note in a record what only clauses read, each with the first sentence of what it does. It is
-# trusted that each does this and makes no other call; everything else is proved on top of it. Written by tools/trusted.py.
+# Of resfork and its own crates also those that write to its output.
+OWN = re.compile(r"\.output\(\)")
+HEAD = """# The functions that call the system, and those that begin or note in a record what only clauses read, each with the first sentence of what it
+# does. It is trusted that each does this and makes no other call; everything else is proved on top of it. Written by tools/trusted.py.
 """
 
 

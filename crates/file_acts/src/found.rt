@@ -13,7 +13,7 @@ pub fn refused_as(host: &Host<'_>, failure: Failure, bytes: &[u8]) -> Problem {
     Problem::of_refusal(host.alloc(), refusal, bytes)
 }
 
-/// The file that bytes hold, which has a resource fork.
+/// The file that bytes hold, which has a resource fork; or why no fork is found in them.
 pub fn fork_found<'a>(host: &Host<'_>, bytes: &'a [u8]) -> Result<OldFile<'a>, Problem> {
     match resource_fork(host.alloc(), bytes) {
         Ok(found) => Ok(found),
@@ -21,7 +21,7 @@ pub fn fork_found<'a>(host: &Host<'_>, bytes: &'a [u8]) -> Result<OldFile<'a>, P
     }
 }
 
-/// The table of the resource fork that was found in a file.
+/// The table of the resource fork that was found in a file with these bytes; or which fault the fork has.
 pub fn table_found<'a>(
     host: &Host<'_>,
     found: &'a OldFile<'_>,

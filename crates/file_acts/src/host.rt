@@ -10,6 +10,7 @@ pub const OUTPUT: &str = "-";
 /// The host, and how much of a file is read.
 #[derive(Clone, Copy)]
 pub struct Host<'a> {
+    /// The system.
     pub rt: &'a HostRuntime,
     /// How many bytes of a file are read at most.
     pub limit: u64,

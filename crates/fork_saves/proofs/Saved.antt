@@ -5,11 +5,11 @@ use Rattle.std.specs.Prelude.{IfOk}
 use Rattle.file_replace.specs.declared.calls.HeldCall.{HeldCall}
 use Rattle.file_replace.specs.declared.calls.HeldCall.TheVariants as held
 use Rattle.file_replace.specs.declared.calls.Call.TheVariants as calls
-use Rattle.file_replace.specs.declared.calls.Wanted.{Wanted}
-use Rattle.file_replace.specs.declared.calls.Wanted.TheVariants.{Same, Nothing}
 use Rattle.file_replace.specs.declared.destination.Destination.{Destination}
 use Rattle.file_replace.specs.declared.destination.Destination.TheVariants as destinations
 use Rattle.file_replace.specs.declared.held.Held.{Held}
+use Rattle.file_replace.specs.declared.host_place.There.{There}
+use Rattle.file_replace.specs.declared.host_place.There.TheVariants as places
 use Rattle.file_replace.specs.declared.place.FolderSync.{FolderSync}
 use Rattle.file_replace.specs.declared.prepared.Outcome.{Outcome}
 use Rattle.file_replace.specs.declared.prepared.Outcome.TheVariants.{Unchanged, Written}
@@ -41,11 +41,11 @@ put_calls : (bytes : List ℕ) (rights : Option Rights) (now : Owner) (answer : 
 put_calls bytes rights now answer made all before is = (rights, answer, (now, is ∙ ap (λ (m : List Answered). answered (calls.SyncFolder answer) true [] ∷ after_check SyncFolder m) before))
 
 -- what is prepared of bytes is of these
-made_of : {F : Type 0} (there : HeldAt) (path : List ℕ) (wanted : Wanted) (rights : Option Rights) (names : ℕ) (bytes : List ℕ) (p : Prepared F) (old new : List HeldCall)
-    → MakesPrepared there path wanted rights names bytes (Ok p) old new → IsOf bytes p
-made_of there path wanted rights names bytes prepared.Unchanged old new made = made
-made_of there path wanted rights names bytes (prepared.File file) old new made = (rights, made.2.1.0.0, made.2.1.0.1.1)
-made_of there path wanted rights names bytes (prepared.Stream stream) old new made = absurd made
+made_of : {F : Type 0} (there : HeldAt) (path : List ℕ) (has : There) (rights : Option Rights) (names : ℕ) (bytes : List ℕ) (p : Prepared F) (old new : List HeldCall)
+    → MakesPrepared there path has rights names bytes (Ok p) old new → IsOf bytes p
+made_of there path has rights names bytes prepared.Unchanged old new made = made
+made_of there path has rights names bytes (prepared.File file) old new made = (rights, made.2.1.0.0, made.2.1.0.1.1)
+made_of there path has rights names bytes (prepared.Stream stream) old new made = absurd made
 
 for_stream : {F : Type 0} (bytes : List ℕ) (p : Prepared F) → IsForStream bytes p → IsOf bytes p
 for_stream bytes prepared.Unchanged is = absurd is
@@ -53,8 +53,8 @@ for_stream bytes (prepared.File file) is = absurd is
 for_stream bytes (prepared.Stream stream) is = is
 
 prepared_of : {F : Type 0} (there : HeldAt) (to : Destination) (bytes : List ℕ) (p : Prepared F) (old new : List HeldCall) → PreparesAt there to bytes (Ok p) old new → IsOf bytes p
-prepared_of there (destinations.Existing it) bytes p old new made = made_of there (path_buf_bytes it.path) Same (Some it.rights) it.names bytes p old new made
-prepared_of there (destinations.New it) bytes p old new made = made_of there (path_buf_bytes it.path) Nothing None 1 bytes p old new made
+prepared_of there (destinations.Existing it) bytes p old new made = made_of there (path_buf_bytes it.path) (places.This it.file) (Some it.rights) it.names bytes p old new made
+prepared_of there (destinations.New it) bytes p old new made = made_of there (path_buf_bytes it.path) places.Nothing None 1 bytes p old new made
 prepared_of there (destinations.Stream stream) bytes p old new made = for_stream bytes p made.0
 
 pub prepared_if : {F : Type 0} (there : HeldAt) (to : Destination) (bytes : List ℕ) (result : Result (Prepared F) NotReplaced) (old new : List HeldCall) → PreparesAt there to bytes result old new
@@ -63,11 +63,11 @@ prepared_if there to bytes (Ok p) old new made = prepared_of there to bytes p ol
 prepared_if there to bytes (Err why) old new made = tt
 
 -- a file is made by good calls
-made_good : {F : Type 0} (there : HeldAt) (path : List ℕ) (wanted : Wanted) (rights : Option Rights) (names : ℕ) (bytes : List ℕ) (p : Prepared F) (old new : List HeldCall)
-    → MakesPrepared there path wanted rights names bytes (Ok p) old new → AreGood old → AreGood new
-made_good there path wanted rights names bytes prepared.Unchanged old new made good = absurd made
-made_good there path wanted rights names bytes (prepared.File file) old new made good = subst AreGood (sym made.1) (refl, good)
-made_good there path wanted rights names bytes (prepared.Stream stream) old new made good = absurd made
+made_good : {F : Type 0} (there : HeldAt) (path : List ℕ) (has : There) (rights : Option Rights) (names : ℕ) (bytes : List ℕ) (p : Prepared F) (old new : List HeldCall)
+    → MakesPrepared there path has rights names bytes (Ok p) old new → AreGood old → AreGood new
+made_good there path has rights names bytes prepared.Unchanged old new made good = absurd made
+made_good there path has rights names bytes (prepared.File file) old new made good = subst AreGood (sym made.1) (refl, good)
+made_good there path has rights names bytes (prepared.Stream stream) old new made good = absurd made
 
 -- what is prepared of bytes, and put, is put for good
 pub put_good : {F : Type 0} (there : HeldAt) (bytes : List ℕ) (p : Prepared F) (outcome : Outcome) (old new : List HeldCall) → IsOf bytes p → PutsPrepared there p (Ok outcome) old new
@@ -109,10 +109,10 @@ backed_up there it bytes old new up good = elim up.1 [ inl shut ↦ absurd shut 
 
 made_over : {F : Type 0} (there backup : HeldAt) (keeps : Bool) (it : Held) (before after : List ℕ) (p : Prepared F) (old new : List HeldCall) → MakesOver there backup keeps it before after (Ok p) old new
     → AreGood old → IsOf after p × AreGood new
-made_over there backup false it before after p old new made good = (made_of there (path_buf_bytes it.path) Same (Some it.rights) it.names after p old new made, made_good there (path_buf_bytes it.path) Same (Some it.rights) it.names after p old new made good)
+made_over there backup false it before after p old new made good = (made_of there (path_buf_bytes it.path) (places.This it.file) (Some it.rights) it.names after p old new made, made_good there (path_buf_bytes it.path) (places.This it.file) (Some it.rights) it.names after p old new made good)
 made_over there backup true it before after p old new made good = elim made [
   | inl not ↦ absurd not
-  | inr both ↦ (made_of there (path_buf_bytes it.path) Same (Some it.rights) it.names after p both.0 new both.2, made_good there (path_buf_bytes it.path) Same (Some it.rights) it.names after p both.0 new both.2 (backed_up backup it before old both.0 both.1 good))
+  | inr both ↦ (made_of there (path_buf_bytes it.path) (places.This it.file) (Some it.rights) it.names after p both.0 new both.2, made_good there (path_buf_bytes it.path) (places.This it.file) (Some it.rights) it.names after p both.0 new both.2 (backed_up backup it before old both.0 both.1 good))
 ]
 
 unchanged_put : {F : Type 0} (there : HeldAt) (p : Prepared F) (outcome : Outcome) (old new : List HeldCall) → p ≡ prepared.Unchanged → PutsPrepared there p (Ok outcome) old new → new ≡ old

@@ -18,7 +18,8 @@ use fork_edit::change::{NewFile, changed};
 use fork_edit::edit::Edit;
 use fork_words::work::Target;
 
-/// Changes the resources of a file, in its own place or in another. The result is the exit status.
+/// Changes the resources of a file, in its own place or in another. The result is the exit status; or why it isn't
+/// changed, or that it is and the standard output takes no more.
 pub fn change_file(
     host: &Host<'_>,
     target: &Target<'_>,
@@ -55,7 +56,7 @@ fn change_other(
     change_into(host, target, &old, from, edit, acts)
 }
 
-/// Makes a new file with these resources.
+/// Makes a new file with these resources. The result is the same.
 pub fn create_file(
     host: &Host<'_>,
     target: &Target<'_>,
@@ -212,7 +213,7 @@ pub fn written_file<'a>(target: &Target<'a>) -> &'a str
     target.output.unwrap_or(target.file)
 }
 
-/// Writes the file that a command names, unless it only says what it would do.
+/// Writes the file that a command names, unless it only says what it would do. A problem is one of the output's path.
 pub fn write_output(
     host: &Host<'_>,
     target: &Target<'_>,

@@ -276,7 +276,8 @@ pub(crate) fn put_two(
     }
 }
 
-/// Writes a file, which is whole then, or as it was; or bytes to the standard output, unless it is a terminal.
+/// Writes a file, which is whole then, or as it was; or bytes to the standard output, which `-` is, unless it is a
+/// terminal. A problem is one of this path, or that the host has no memory.
 pub fn save_to(host: &Host<'_>, output: &str, bytes: &[u8], acts: &mut Acts) -> Result<(), Problem>
     ensures cause { IfErr result (IsNotSaved output.now) }
     ensures saves { output.now ≢ codes "-" → IfOk result (λ _. JustSaved bytes.now acts.new.events) }

@@ -1,7 +1,7 @@
 //! Reports on files: their resources, their faults, and what is known of them.
 
 ghost use Rattle.file_acts.specs.Acts.{ReadsNothing, ReadsOnly, ReadsThese};
-ghost use Rattle.std.specs.Prelude.{◌≡◌, ◌≤◌, IfOk};
+ghost use Rattle.std.specs.Prelude.{◌≡◌, ◌≤◌, if◌then◌else◌, IfOk};
 
 use crate::several::{higher, note_archive, write_lines};
 use file_acts::acts::{Acts, write_text};

@@ -3,7 +3,6 @@
 ghost use Rattle.file_acts.specs.Acts.{ReadsNothing, ReadsOnly};
 ghost use Rattle.fork_list.specs.Listing.{absent_kind};
 ghost use Rattle.resfork.specs.Faults.{IsToldOfKinds};
-ghost use Rattle.resfork.specs.Running.{only_reads};
 ghost use Rattle.std.specs.Prelude.{◌≡◌, IfOk};
 
 use file_acts::acts::Acts;

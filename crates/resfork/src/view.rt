@@ -1,7 +1,6 @@
 //! Resources as people see them, and resources that are written to a folder.
 
 ghost use Rattle.file_acts.specs.Acts.{ReadsNothing};
-ghost use Rattle.resfork.specs.Running.{only_reads};
 ghost use Rattle.std.specs.Prelude.{◌≡◌, IfOk, is_none, true};
 
 use crate::table_use::{TableUse, check_kinds};

@@ -26,8 +26,8 @@ returns-in-Ok g c = (
   c.in-Ok.ensures.puts,
 )
 
-pub returns : goal.returns
-returns g c =
+pub returns-in-Err : goal.returns-in-Err
+returns-in-Err g c =
     let old = c.args.log.now.events in let new = c.note_put-2.new.log.events in
     let puts : PutsFiles g.F.FolderWorld.held g.G.FolderWorld.held c.args.first c.args.second (Err c.in-Err.fault) old new = (
       c.put_both-done.new.first.log.events,

@@ -14,8 +14,8 @@ returns-in-Ok g c =
     let noted = c.note_put.ensures ∙ ap (λ (s : Spot). Put s.path calls ∷ old) c.in-Ok.ensures.stays in
     (calls, noted, c.in-Ok.ensures.calls, c.in-Ok.ensures.puts)
 
-pub returns : goal.returns
-returns g c =
+pub returns-in-Err : goal.returns-in-Err
+returns-in-Err g c =
     let held = g.F.FolderWorld.held in let start = c.args.self.place.log.events in let calls = c.put-done.new.place.log.events in let old = c.args.log.now.events in
     let made = subst (λ (f : Fault Error). CallsToPut (Err f) start calls) (sym c.stopped.ensures) c.in-Err.ensures.calls in
     let puts = subst (λ (f : Fault Error). IfHonest (Puts (Err f)) (seen_at held start) (seen_at held calls)) (sym c.stopped.ensures) c.in-Err.ensures.puts in
