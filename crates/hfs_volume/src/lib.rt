@@ -8,7 +8,7 @@ mod forks;
 pub mod mdb;
 pub mod name;
 pub mod overflow;
-mod ranges;
+pub mod ranges;
 #[cfg(test)]
 mod tests;
 pub mod volume;

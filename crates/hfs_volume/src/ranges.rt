@@ -47,8 +47,8 @@ fn are_in_volume(layout: Layout, extents: &[Extent]) -> bool
     extents.iter().all(|extent| is_in_volume(layout, extent))
 }
 
-/// Where the bytes of extents are, of which so many count.
-fn ranges_in(
+/// Where the bytes of extents are, of which so many count. The only error is that the host has no memory.
+pub fn ranges_in(
     alloc: Global,
     layout: Layout,
     extents: &[Extent],
@@ -80,7 +80,7 @@ fn is_there(range: &Range, size: u64) -> bool
 }
 
 /// Whether all ranges end within so many bytes.
-fn are_there(ranges: &[Range], size: u64) -> bool
+pub fn are_there(ranges: &[Range], size: u64) -> bool
     ensures { result ≡ list_all (is_there size) ranges.now }
 {
     ranges.iter().all(|range| is_there(range, size))

@@ -33,7 +33,7 @@ pub struct Volume {
 }
 
 /// How many blocks so many bytes need; none where blocks have no bytes.
-pub(crate) fn blocks_for(layout: Layout, size: u32) -> u64
+pub fn blocks_for(layout: Layout, size: u32) -> u64
     ensures value { result ≡ blocks_for layout size }
     ensures small { result < 2 ^ 33 }
 {

@@ -1,0 +1,4 @@
+pub mod Info
+pub mod Directory
+pub mod Chain
+pub mod Volume
