@@ -34,7 +34,7 @@ sectors_of size mode =
 
 -- the data of a DiskCopy image, as far as the file goes
 unfoldable pub data_of : ℕ → ℕ → List Range
-data_of size data = record { at = min size 84; length = min data (size - 84) } ∷ []
+data_of size count = record { at = min size 84; length = min count (size - 84) } ∷ []
 
 -- where a disk's bytes are in a file that is known as something
 abbrev pub device_of : List ℕ → Known → Result (List Range) ImageFault

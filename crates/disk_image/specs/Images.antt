@@ -64,6 +64,11 @@ partitions_of disk parts = with_volumes disk parts (filter is_volume parts)
 abbrev pub whole_volume : List ℕ → Format → ContentsIn
 whole_volume disk format = record { parts = []; volumes = record { part = 0; start = 0; found = Ok (record { format = format; bytes = disk }) } ∷ [] }
 
+abbrev pub of_format : List ℕ → Format → Result ContentsIn ImageFault
+of_format disk Hfs = Ok (whole_volume disk Hfs)
+of_format disk Mfs = Ok (whole_volume disk Mfs)
+of_format disk HfsPlus = Err (Refused (Volume HfsPlus))
+
 -- a disk with a damaged map may be a volume of HFS
 abbrev pub or_hfs : List ℕ → ImageFault → Option Format → Result ContentsIn ImageFault
 or_hfs disk fault (Some Hfs) = Ok (whole_volume disk Hfs)
@@ -79,9 +84,7 @@ by_map disk (Err fault) = or_hfs disk fault (format_at 1024 disk)
 abbrev pub contents_of : List ℕ → Known → Result ContentsIn ImageFault
 contents_of disk Map = by_map disk (map_of disk)
 contents_of disk OldMap = partitions_of disk (old_parts disk)
-contents_of disk (Volume Hfs) = Ok (whole_volume disk Hfs)
-contents_of disk (Volume Mfs) = Ok (whole_volume disk Mfs)
-contents_of disk (Volume HfsPlus) = Err (Refused (Volume HfsPlus))
+contents_of disk (Volume format) = of_format disk format
 contents_of disk Udif = Err (Refused Udif)
 contents_of disk Encrypted = Err (Refused Encrypted)
 contents_of disk Sparse = Err (Refused Sparse)

@@ -32,7 +32,7 @@ is_raw_cd file = (number_at 8 0 file == 0x00FFFFFFFFFFFFFF) && (number_at 4 8 fi
 
 -- a header of DiskCopy 4.2: a name of 1 to 63 bytes, $0100 at 82, and as many bytes of data and tags as a disk has
 unfoldable pub is_sized : ℕ → ℕ → Bool
-is_sized data tags = nat_lt 0 data && (data % 512 == 0) && ((tags == 0) || (tags == data / 512 * 12))
+is_sized size tags = nat_lt 0 size && (size % 512 == 0) && ((tags == 0) || (tags == size / 512 * 12))
 
 unfoldable pub is_disk_copy : List ℕ → Bool
 is_disk_copy file = nat_le 1 (number_at 1 0 file) && nat_le (number_at 1 0 file) 63 && (number_at 2 82 file == 0x0100)

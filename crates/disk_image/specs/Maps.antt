@@ -54,8 +54,12 @@ abbrev pub small : ℕ → ℕ
 small byte = if nat_le 65 byte && nat_le byte 90 then byte + 32 else byte
 
 -- the bytes before the first zero
+abbrev pub up_to : List ℕ → Option ℕ → List ℕ
+up_to bytes (Some end) = take end bytes
+up_to bytes None = bytes
+
 abbrev pub text_of : List ℕ → List ℕ
-text_of bytes = take (unwrap_or (position (λ byte. byte == 0) bytes) (length bytes)) bytes
+text_of bytes = up_to bytes (position (λ byte. byte == 0) bytes)
 
 -- whether a partition's type is a text, in whichever letters
 abbrev pub is_letter : ℕ → ℕ → Bool

@@ -51,12 +51,12 @@ fn sector_view(alloc: Global, file: u64, head: u64) -> Result<View, AllocError>
 }
 
 /// The data of a DiskCopy image.
-fn data_view(alloc: Global, file: u64, data: u64) -> Result<View, AllocError>
+fn data_view(alloc: Global, file: u64, count: u64) -> Result<View, AllocError>
     ensures sound { IfOk result IsView }
     ensures file { IfOk result (λ view. view.file ≡ file) }
-    ensures ranges { IfOk result (λ view. view.ranges.items ≡ data_of file data) }
+    ensures ranges { IfOk result (λ view. view.ranges.items ≡ data_of file count) }
 {
-    let size = data.min(file.saturating_sub(84));
+    let size = count.min(file.saturating_sub(84));
     let range = Range {
         at: file.min(84),
         length: size,
@@ -115,6 +115,13 @@ pub(crate) fn find_device<D: ForkDisk>(
             Ok(Ok(data_view(alloc, view.file, data)?))
         }
         Known::RawCd => sector_device(alloc, disk, view),
-        _ => Ok(Ok(View::whole(alloc, view.file)?)),
+        Known::Udif
+        | Known::Encrypted
+        | Known::Sparse
+        | Known::Map
+        | Known::Volume(_)
+        | Known::OldMap
+        | Known::Iso
+        | Known::Other => Ok(Ok(View::whole(alloc, view.file)?)),
     }
 }

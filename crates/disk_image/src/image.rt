@@ -4,7 +4,7 @@ ghost use Rattle.std.specs.Prelude.{◌≡◌, ℕ, List, length, Ok, Err, IfOk,
 ghost use Rattle.std.specs.List.{AllByRecursion};
 ghost use Rattle.hfs_tree.specs.Reads.{Learns, HasBytes, CountsReads};
 ghost use Rattle.disk_image.specs.Devices.{IsView, bytes_in};
-ghost use Rattle.disk_image.specs.Images.{contents_in, contents_of, by_map, partitions_of, whole_volume, IsPlaced};
+ghost use Rattle.disk_image.specs.Images.{contents_in, contents_of, of_format, by_map, partitions_of, whole_volume, IsPlaced};
 ghost use Rattle.disk_image.specs.Maps.{map_of};
 ghost use Rattle.disk_image.specs.Opening.{OpensAs, CountsOpening};
 
@@ -68,10 +68,7 @@ fn whole_volume(alloc: Global, view: View, format: Format) -> Result<Contents, A
     let placed = Placed {
         part: 0,
         start: 0,
-        found: Ok(Found {
-            format,
-            view,
-        }),
+        found: Ok(Found { format, view }),
     };
     let mut volumes = Vec::new(alloc);
     volumes.push(placed)?;
@@ -79,6 +76,24 @@ fn whole_volume(alloc: Global, view: View, format: Format) -> Result<Contents, A
         parts: Vec::new(alloc),
         volumes,
     })
+}
+
+/// The same, if it is of HFS or MFS.
+fn volume_or_fault(
+    alloc: Global,
+    view: View,
+    format: Format,
+) -> Result<Result<Contents, ImageFault>, AllocError>
+    requires { IsView view }
+    ensures contents { IfOk result (λ found. (file : List ℕ) → MatchResult found
+        (λ contents. of_format (bytes_in view file) format ≡ Ok (contents_in file contents))
+        (λ fault. of_format (bytes_in view file) format ≡ Err fault)) }
+    ensures there { IfOk result (λ found. IfOk found (λ contents. AllByRecursion (IsPlaced view.file) contents.volumes.items)) }
+{
+    match format {
+        Format::Hfs | Format::Mfs => Ok(Ok(whole_volume(alloc, view, format)?)),
+        Format::HfsPlus => Ok(Err(ImageFault::Refused(Known::Volume(format)))),
+    }
 }
 
 /// What a disk with a map has.
@@ -126,9 +141,14 @@ fn read_contents<D: ForkDisk>(
             let parts = read_old_map(alloc, disk, &view)?;
             read_volumes(alloc, disk, &view, parts)
         }
-        Known::Volume(Format::Hfs) => Ok(Ok(whole_volume(alloc, view, Format::Hfs)?)),
-        Known::Volume(Format::Mfs) => Ok(Ok(whole_volume(alloc, view, Format::Mfs)?)),
-        _ => Ok(Err(ImageFault::Refused(known))),
+        Known::Volume(format) => Ok(volume_or_fault(alloc, view, format)?),
+        Known::Udif
+        | Known::Encrypted
+        | Known::Sparse
+        | Known::RawCd
+        | Known::DiskCopy
+        | Known::Iso
+        | Known::Other => Ok(Err(ImageFault::Refused(known))),
     }
 }
 

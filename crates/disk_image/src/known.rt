@@ -4,7 +4,7 @@ ghost use Rattle.std.specs.Prelude.{◌≡◌, ◌+◌, ◌<◌, ◌^◌, length
 ghost use Rattle.fork_disk.specs.Disk.{Counts};
 ghost use Rattle.hfs_tree.specs.Reads.{Learns, HasBytes};
 ghost use Rattle.disk_image.specs.Devices.{IsView, bytes_in};
-ghost use Rattle.disk_image.specs.Known.{is_udif, is_encrypted, is_sparse, is_raw_cd, is_sized, is_disk_copy, has_map, has_old_map, is_iso, is_hfs, format_at, format_of_copy, image_of, disk_of, known_as};
+ghost use Rattle.disk_image.specs.Known.{is_udif, is_encrypted, is_sparse, is_raw_cd, is_sized, is_disk_copy, has_map, has_old_map, is_iso, is_hfs, format_at, hfs_or_mfs, format_of_copy, image_of, disk_of, known_as};
 
 use crate::view::View;
 use fork_disk::disk::{DiskFault, ForkDisk};
@@ -64,8 +64,10 @@ fn is_encrypted<D: ForkDisk>(disk: &mut D, view: &View) -> Result<bool, DiskFaul
         (λ file. IfOk result (λ found. found ≡ is_encrypted (bytes_in view.now file))) }
     ensures cause { Counts (D.failures disk.old) (D.failures disk.new) result }
 {
-    Ok(view.number(disk, 8, 0)? == 0x656E_6372_6364_7361
-        || view.number_before(disk, 8, 8)? == 0x6364_7361_656E_6372)
+    Ok(
+        view.number(disk, 8, 0)? == 0x656E_6372_6364_7361
+            || view.number_before(disk, 8, 8)? == 0x6364_7361_656E_6372,
+    )
 }
 
 /// Whether it begins as a sparse image.
@@ -94,10 +96,10 @@ fn is_raw_cd<D: ForkDisk>(disk: &mut D, view: &View) -> Result<bool, DiskFault>
 
 /// Whether a disk can have so many bytes of data and of tags.
 #[tactic(auto, unfolding(crate::specs::Known::is_sized))]
-fn is_sized(data: u64, tags: u64) -> bool
-    ensures { result ≡ is_sized data tags }
+fn is_sized(size: u64, tags: u64) -> bool
+    ensures { result ≡ is_sized size tags }
 {
-    data > 0 && data % 512 == 0 && (tags == 0 || tags == data / 512 * 12)
+    size > 0 && size % 512 == 0 && (tags == 0 || tags == size / 512 * 12)
 }
 
 /// Whether it has a header of DiskCopy 4.2.
@@ -161,7 +163,11 @@ fn is_hfs(signature: u64, name: u64) -> bool
 
 /// The format of the volume whose block of information is at a place.
 #[tactic(auto, unfolding(crate::specs::Known::format_at))]
-pub(crate) fn format_at<D: ForkDisk>(disk: &mut D, view: &View, at: u64) -> Result<Option<Format>, DiskFault>
+pub(crate) fn format_at<D: ForkDisk>(
+    disk: &mut D,
+    view: &View,
+    at: u64,
+) -> Result<Option<Format>, DiskFault>
     requires sound { IsView view.now }
     requires size { HasBytes D.ForkDisk disk.old (λ file. view.now.file ≡ length file) }
     requires low { at + 36 < 2 ^ 64 }
@@ -183,9 +189,22 @@ pub(crate) fn format_at<D: ForkDisk>(disk: &mut D, view: &View, at: u64) -> Resu
     }
 }
 
+/// The format of a volume that has a copy of its block of information.
+fn hfs_or_mfs(format: Option<Format>) -> Option<Format>
+    ensures { result ≡ hfs_or_mfs format }
+{
+    match format {
+        Some(Format::Hfs) => Some(Format::Hfs),
+        Some(Format::Mfs) => Some(Format::Mfs),
+        Some(Format::HfsPlus) | None => None,
+    }
+}
+
 /// The format of the volume that has a copy of that block.
-#[tactic(auto, unfolding(crate::specs::Known::format_of_copy))]
-pub(crate) fn format_of_copy<D: ForkDisk>(disk: &mut D, view: &View) -> Result<Option<Format>, DiskFault>
+pub(crate) fn format_of_copy<D: ForkDisk>(
+    disk: &mut D,
+    view: &View,
+) -> Result<Option<Format>, DiskFault>
     requires sound { IsView view.now }
     requires size { HasBytes D.ForkDisk disk.old (λ file. view.now.file ≡ length file) }
     ensures reads { D.is_honest disk.new → Learns D.ForkDisk disk.old disk.new
@@ -195,11 +214,8 @@ pub(crate) fn format_of_copy<D: ForkDisk>(disk: &mut D, view: &View) -> Result<O
     if view.size < 1536 {
         return Ok(None);
     }
-    match format_at(disk, view, (view.size / 512 - 2) * 512)? {
-        Some(Format::Hfs) => Ok(Some(Format::Hfs)),
-        Some(Format::Mfs) => Ok(Some(Format::Mfs)),
-        Some(Format::HfsPlus) | None => Ok(None),
-    }
+    let format = format_at(disk, view, (view.size / 512 - 2) * 512)?;
+    Ok(hfs_or_mfs(format))
 }
 
 /// What it is known as that isn't a disk's own blocks.

@@ -55,7 +55,6 @@ fn parts_in(alloc: Global, block: &[u8; 512]) -> Result<Vec<Part>, AllocError>
 }
 
 /// The partitions of a disk with such a map.
-#[tactic(auto, unfolding(crate::specs::Maps::old_parts))]
 pub(crate) fn read_old_map<D: ForkDisk>(
     alloc: Global,
     disk: &mut D,

@@ -1,6 +1,6 @@
 //! Partitions.
 
-ghost use Rattle.std.specs.Prelude.{◌≡◌, ◌≤◌, length};
+ghost use Rattle.std.specs.Prelude.{◌≡◌, ◌<◌, ◌==◌, length, position, IfSome};
 ghost use Rattle.disk_image.specs.Maps.{small, text_of, is_letter, is_kind, is_volume};
 
 /// A partition: its number in the map, from 1 on, its name and type with zeros after them, and where on the disk it
@@ -14,12 +14,22 @@ pub struct Part {
     pub count: u64,
 }
 
+/// Where the first zero is.
+fn find_zero(bytes: &[u8]) -> Option<usize>
+    ensures value { result ≡ position (λ byte. byte == 0) bytes.now }
+    ensures inside { IfSome result (λ place. place < length bytes.now) }
+{
+    bytes.iter().position(|byte| *byte == 0)
+}
+
 /// The bytes before the first zero.
 fn text_of(bytes: &[u8]) -> &[u8]
     ensures { result.now ≡ text_of bytes.now }
 {
-    let end = bytes.iter().position(|byte| *byte == 0).unwrap_or(bytes.len());
-    &bytes[..end]
+    match find_zero(bytes) {
+        Some(end) => &bytes[..end],
+        None => bytes,
+    }
 }
 
 /// The small letter of a letter.

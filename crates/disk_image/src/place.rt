@@ -6,7 +6,7 @@ ghost use Rattle.fork_disk.specs.Disk.{Counts};
 ghost use Rattle.hfs_tree.specs.Reads.{Learns, HasBytes, CountsReads};
 ghost use Rattle.disk_image.specs.Devices.{IsView, bytes_in};
 ghost use Rattle.disk_image.specs.Maps.{is_volume};
-ghost use Rattle.disk_image.specs.Images.{format_of, found_of, volume_of, found_in, placed_in, IsThere, IsPlaced};
+ghost use Rattle.disk_image.specs.Images.{format_of, found_of, volume_in, volume_of, found_in, placed_in, IsThere, IsPlaced};
 
 use crate::fault::ImageFault;
 use crate::known::{Format, format_at, format_of_copy};

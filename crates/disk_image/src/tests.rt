@@ -42,13 +42,7 @@ fn read_with(alloc: Global, size: usize, pieces: &[Piece<'_>]) -> Result<Image, 
 }
 
 /// Such a file is refused for this.
-fn refuses(
-    rt: &impl Abort,
-    alloc: Global,
-    size: usize,
-    pieces: &[Piece<'_>],
-    fault: ImageFault,
-) {
+fn refuses(rt: &impl Abort, alloc: Global, size: usize, pieces: &[Piece<'_>], fault: ImageFault) {
     let found = match read_with(alloc, size, pieces) {
         Ok(_) => None,
         Err(fault) => Some(fault),
@@ -98,7 +92,13 @@ const MFS: Piece<'static> = (1024, b"\xD2\xD7");
 fn refuses_other_images(rt: HostRuntime) {
     let alloc = rt.alloc();
     refuses(&rt, alloc, 0, &[], ImageFault::Refused(Known::Other));
-    refuses(&rt, alloc, 512, &[(0, b"koly")], ImageFault::Refused(Known::Udif));
+    refuses(
+        &rt,
+        alloc,
+        512,
+        &[(0, b"koly")],
+        ImageFault::Refused(Known::Udif),
+    );
     refuses(
         &rt,
         alloc,
@@ -131,7 +131,10 @@ fn refuses_other_images(rt: HostRuntime) {
         &rt,
         alloc,
         2400,
-        &[(0, b"\x00\xFF\xFF\xFF\xFF\xFF\xFF\xFF\xFF\xFF\xFF\x00"), (15, b"\x03")],
+        &[
+            (0, b"\x00\xFF\xFF\xFF\xFF\xFF\xFF\xFF\xFF\xFF\xFF\x00"),
+            (15, b"\x03"),
+        ],
         ImageFault::Sector(3),
     );
 }
@@ -149,7 +152,14 @@ fn finds_volumes(rt: HostRuntime) {
     };
     let hfs = (0, Ok((Format::Hfs, whole)));
     let mfs = (0, Ok((Format::Mfs, whole)));
-    reads(&rt, alloc, 4096, &[HFS, NAME], Known::Volume(Format::Hfs), &[hfs]);
+    reads(
+        &rt,
+        alloc,
+        4096,
+        &[HFS, NAME],
+        Known::Volume(Format::Hfs),
+        &[hfs],
+    );
     reads(&rt, alloc, 4096, &[MFS], Known::Volume(Format::Mfs), &[mfs]);
     reads(
         &rt,
@@ -178,11 +188,20 @@ fn finds_volumes(rt: HostRuntime) {
 /// Entries of a partition map: three, of which the second is a volume of eight blocks from block 6 on, and the third has
 /// another type.
 const ENTRIES: [Piece<'static>; 6] = [
-    (512, b"PM\x00\x00\x00\x00\x00\x03\x00\x00\x00\x01\x00\x00\x00\x3FApple"),
+    (
+        512,
+        b"PM\x00\x00\x00\x00\x00\x03\x00\x00\x00\x01\x00\x00\x00\x3FApple",
+    ),
     (560, b"Apple_partition_map"),
-    (1024, b"PM\x00\x00\x00\x00\x00\x03\x00\x00\x00\x06\x00\x00\x00\x08MacOS"),
+    (
+        1024,
+        b"PM\x00\x00\x00\x00\x00\x03\x00\x00\x00\x06\x00\x00\x00\x08MacOS",
+    ),
     (1072, b"Apple_HFS"),
-    (1536, b"PM\x00\x00\x00\x00\x00\x03\x00\x00\x00\x0E\x00\x00\x00\x02Extra"),
+    (
+        1536,
+        b"PM\x00\x00\x00\x00\x00\x03\x00\x00\x00\x0E\x00\x00\x00\x02Extra",
+    ),
     (1584, b"Apple_Free"),
 ];
 
@@ -285,7 +304,10 @@ fn finds_partitions_of_other_maps(rt: HostRuntime) {
         16384,
         &[
             (0, b"ER\x08\x00"),
-            (2048, b"PM\x00\x00\x00\x00\x00\x01\x00\x00\x00\x04\x00\x00\x00\x02"),
+            (
+                2048,
+                b"PM\x00\x00\x00\x00\x00\x01\x00\x00\x00\x04\x00\x00\x00\x02",
+            ),
             (2096, b"Apple_HFS"),
             (9216, b"BD"),
             (9252, b"\x01x"),

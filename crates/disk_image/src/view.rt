@@ -53,6 +53,7 @@ impl View {
     }
 
     /// The same at a place that is given from the end.
+    #[tactic(auto, unfolding(crate::specs::Known::number_before), using(crate::proofs::Views::view_length))]
     pub fn number_before<D: ForkDisk>(
         &self,
         disk: &mut D,
