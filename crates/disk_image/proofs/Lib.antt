@@ -4,3 +4,6 @@ pub mod PartsRead
 pub mod VolumesPlaced
 pub mod DevicesFound
 pub mod KnownBy
+pub mod MapsRead
+pub mod VolumesFound
+pub mod Opened

@@ -11,9 +11,13 @@ use Rattle.disk_image.specs.declared.map.Grid.{Grid}
 use Rattle.disk_image.specs.declared.part.Part.{Part}
 use Rattle.disk_image.specs.Maps.{part_in, parts_before, with_entry, parts_from, old_part, is_blank, old_parts_from}
 
+-- what was read is all
+abbrev pub read_all : List Part → Result (List Part) ImageFault
+read_all parts = Ok parts
+
 -- partitions before one and others
 both_before : (parts : List Part) (part : Part) (rest : Result (List Part) ImageFault) → parts_before parts (parts_before (part ∷ []) rest) ≡ parts_before (parts ++ part ∷ []) rest
-both_before parts part (Ok others) = ap (λ (xs : List Part). Ok {E = ImageFault} xs) (sym (append_assoc parts (part ∷ []) others))
+both_before parts part (Ok others) = ap read_all (sym (append_assoc parts (part ∷ []) others))
 both_before parts part (Err fault) = refl
 
 module _ (disk : List ℕ) (grid : Grid) where
@@ -35,7 +39,7 @@ module _ (disk : List ℕ) (grid : Grid) where
   -- and none after the last
   pub no_part : (parts : List Part) (number left : ℕ) → left ≡ 0 → parts_before parts (parts_from disk grid number left) ≡ Ok parts
   unfolding parts_from
-  no_part parts number left none = rw none (ap (λ (xs : List Part). Ok {E = ImageFault} xs) (append-nil parts))
+  no_part parts number left none = rw none (ap read_all (append-nil parts))
 
 -- before the first there are none
 pub none_before : (rest : Result (List Part) ImageFault) → rest ≡ parts_before [] rest

@@ -84,9 +84,9 @@ pub part_view : (view : View) (ranges : List Range) (at part : ℕ) → IsView v
     → AreWithin view.file ranges × (part ≡ total ranges)
 unfolding bytes_of total
 part_view view ranges at part is inside has =
-    let disk = replicate view.file 0 in
+    let disk : List ℕ = replicate view.file 0 in
     let long : length disk ≡ view.file = length-replicate view.file 0 in
-    let there = rw (sym long) at is.within.inside in
+    let there : AllByRecursion (IsInDisk (length disk)) view.ranges.items = rw (sym long) at is.within.inside in
     let outer : length (bytes_of view.ranges.items disk) ≡ view.size = length_is view.ranges.items disk there ∙ sym is.whole in
     let left = length-drop at (bytes_of view.ranges.items disk) in
     let here : length (bytes_at part at (bytes_of view.ranges.items disk)) ≡ part = length-take-le part (drop at (bytes_of view.ranges.items disk)) (omega (arith, left, outer, inside)) in

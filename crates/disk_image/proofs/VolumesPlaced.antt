@@ -1,5 +1,5 @@
 -- The volumes of the partitions so far, and of one more.
-use Rattle.std.proofs.Common.{◌≡◌, ℕ, ◌+◌, ◌<◌, List, [], ◌∷◌, ◌++◌, length, take, get_or, map, sym, ap, ◌∙◌}
+use Rattle.std.proofs.Common.{◌≡◌, ℕ, zero, suc, arith, ◌+◌, ◌<◌, List, [], ◌∷◌, ◌++◌, length, take, get_or, map, sym, ap, ◌∙◌}
 use Rattle.std.proofs.lemmas.List.{map-append, take_more}
 use Rattle.std.specs.List.{AllByRecursion}
 use Rattle.disk_image.specs.declared.part.Part.{Part}
@@ -18,3 +18,9 @@ one_more file disk parts i d volumes placed at so_far is =
 pub all_with : (size : ℕ) (volumes : List Placed) (placed : Placed) → AllByRecursion (IsPlaced size) volumes → IsPlaced size placed → AllByRecursion (IsPlaced size) (volumes ++ placed ∷ [])
 all_with size [] placed all is = (is, tt)
 all_with size (first ∷ volumes) placed all is = (all.0, all_with size volumes placed all.1 is)
+
+-- what holds of all holds of one of them
+pub each_at : (size : ℕ) (volumes : List Placed) (i : ℕ) (d : Placed) → i < length volumes → AllByRecursion (IsPlaced size) volumes → IsPlaced size (get_or volumes i d)
+each_at size [] i d at all = absurd (omega arith)
+each_at size (first ∷ volumes) zero d at all = all.0
+each_at size (first ∷ volumes) (suc i) d at all = each_at size volumes i d (omega arith) all.1

@@ -1,5 +1,5 @@
 -- What an image has.
-use Rattle.std.specs.Prelude.{◌≡◌, ⊤, ℕ, nat_le, if◌then◌else◌, List, [], ◌∷◌, length, filter, map, Option, None, Some, Result, Ok, Err}
+use Rattle.std.specs.Prelude.{◌≡◌, ⊤, ℕ, nat_le, if◌then◌else◌, List, [], ◌∷◌, length, filter, map, slice_index_or, Option, None, Some, Result, Ok, Err}
 use Rattle.disk_image.specs.declared.fault.ImageFault.{ImageFault}
 use Rattle.disk_image.specs.declared.fault.ImageFault.TheVariants.{Refused, NoVolume, Start, Part as NoPart}
 use Rattle.disk_image.specs.declared.image.Contents.{Contents}
@@ -111,3 +111,7 @@ IsThere size (Err fault) = ⊤
 
 abbrev pub IsPlaced : ℕ → Placed → Type 0
 IsPlaced size placed = IsThere size placed.found
+
+-- what was found of the volume at an index
+abbrev pub IsVolumeAt : ℕ → List Placed → Result Found ImageFault → Type 0
+IsVolumeAt index volumes found = (other : Placed) → (slice_index_or volumes index other).found ≡ found

@@ -95,7 +95,7 @@ has_signature disk part = is_volume part && is_some (format_at 1024 (bytes_of_pa
 -- A map counts in blocks of 512 bytes, or in those that the driver map says. Its entries come one in each such block, or
 -- one in each 512 bytes.
 abbrev pub unit_of : ℕ → ℕ
-unit_of size = if nat_lt 512 size && (size % 512 == 0) then size else 512
+unit_of size = if nat_lt 512 size && nat_lt size 65536 && (size % 512 == 0) then size else 512
 
 abbrev pub grids_of : ℕ → List Grid
 grids_of size = let unit = unit_of size in

@@ -1,12 +1,12 @@
 //! A disk image is read.
 
-ghost use Rattle.std.specs.Prelude.{◌≡◌, ℕ, List, length, Ok, Err, IfOk, MatchResult};
+ghost use Rattle.std.specs.Prelude.{◌≡◌, ◌≤◌, ℕ, List, length, Ok, Err, IfNone, IfOk, IfSome, MatchResult};
 ghost use Rattle.std.specs.List.{AllByRecursion};
 ghost use Rattle.hfs_tree.specs.Reads.{Learns, HasBytes, CountsReads};
 ghost use Rattle.disk_image.specs.Devices.{IsView, bytes_in};
-ghost use Rattle.disk_image.specs.Images.{contents_in, contents_of, of_format, by_map, partitions_of, whole_volume, IsPlaced};
+ghost use Rattle.disk_image.specs.Images.{contents_in, contents_of, of_format, by_map, partitions_of, whole_volume, IsThere, IsPlaced, IsVolumeAt};
 ghost use Rattle.disk_image.specs.Maps.{map_of};
-ghost use Rattle.disk_image.specs.Opening.{OpensAs, CountsOpening};
+ghost use Rattle.disk_image.specs.Opening.{image_in, IsImage, OpensAs, CountsOpening};
 
 use crate::device::find_device;
 use crate::fault::{ImageFault, OpenFault};
@@ -33,6 +33,23 @@ pub struct Image {
     pub size: u64,
     pub known: Known,
     pub contents: Contents,
+}
+
+impl Image {
+    /// Hands out a volume, or why it isn't read, by its index.
+    pub fn into_volume(self, index: usize) -> Option<Result<Found, ImageFault>>
+        requires { AllByRecursion (IsPlaced self.size) self.contents.volumes.items }
+        ensures there { IfSome result (IsThere self.size) }
+        ensures value { IfSome result (λ found. IsVolumeAt index self.contents.volumes.items found) }
+        ensures none { IfNone result (length self.contents.volumes.items ≤ index) }
+    {
+        let mut volumes = self.contents.volumes;
+        if index >= volumes.len() {
+            return None;
+        }
+        let placed = volumes.swap_remove(index);
+        Some(placed.found)
+    }
 }
 
 /// What partitions have.
@@ -152,6 +169,35 @@ fn read_contents<D: ForkDisk>(
     }
 }
 
+/// What a file of so many bytes has, or the first condition that doesn't hold.
+fn read_file<D: ForkDisk>(
+    alloc: Global,
+    disk: &mut D,
+    size: u64,
+) -> Result<Result<Image, ImageFault>, ReadFault>
+    requires { HasBytes D.ForkDisk disk.old (λ file. size ≡ length file) }
+    ensures reads { D.is_honest disk.new → Learns D.ForkDisk disk.old disk.new
+        (λ file. IfOk result (λ found. MatchResult found (IsImage file) (λ fault. image_in file ≡ Err fault))) }
+    ensures there { IfOk result (λ found. IfOk found (λ image. AllByRecursion (IsPlaced image.size) image.contents.volumes.items)) }
+    ensures cause { CountsReads (D.failures disk.old) (D.failures disk.new) result }
+{
+    let whole = View::whole(alloc, size)?;
+    let known = known_as(disk, &whole)?;
+    let view = match find_device(alloc, disk, &whole, known)? {
+        Ok(view) => view,
+        Err(fault) => return Ok(Err(fault)),
+    };
+    let inner = known_as(disk, &view)?;
+    match read_contents(alloc, disk, view, inner)? {
+        Ok(contents) => Ok(Ok(Image {
+            size,
+            known,
+            contents,
+        })),
+        Err(fault) => Ok(Err(fault)),
+    }
+}
+
 /// What a file has that is a disk image. Some numbers of eight bytes are read, and the entries of a partition map. A fault
 /// of the bytes is the first condition that doesn't hold; one of a partition is that partition's alone.
 pub fn read_image<D: ForkDisk>(alloc: Global, disk: &mut D) -> Result<Image, OpenFault>
@@ -160,14 +206,8 @@ pub fn read_image<D: ForkDisk>(alloc: Global, disk: &mut D) -> Result<Image, Ope
     ensures cause { CountsOpening (D.failures disk.old) (D.failures disk.new) result }
 {
     let size = disk.len()?;
-    let whole = View::whole(alloc, size)?;
-    let known = known_as(disk, &whole)?;
-    let view = find_device(alloc, disk, &whole, known)??;
-    let inner = known_as(disk, &view)?;
-    let contents = read_contents(alloc, disk, view, inner)??;
-    Ok(Image {
-        size,
-        known,
-        contents,
-    })
+    match read_file(alloc, disk, size)? {
+        Ok(image) => Ok(image),
+        Err(fault) => Err(OpenFault::Image(fault)),
+    }
 }

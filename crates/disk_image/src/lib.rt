@@ -15,4 +15,4 @@ mod tests;
 pub mod view;
 
 pub use image::read_image;
-pub use open::{open_fork, open_volume};
+pub use open::{open_fork, open_fork_within, open_volume};

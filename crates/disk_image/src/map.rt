@@ -1,6 +1,6 @@
 //! The partitions of a disk.
 
-ghost use Rattle.std.specs.Prelude.{◌≡◌, ◌≤◌, ◌<◌, ◌^◌, ◌+◌, ◌*◌, List, length, Ok, Err, find, IfOk, MatchResult};
+ghost use Rattle.std.specs.Prelude.{◌≡◌, ◌≤◌, ◌<◌, ◌^◌, ◌+◌, ◌*◌, List, length, Ok, Err, find, IfOk, IfSome, MatchResult};
 ghost use Rattle.std.specs.List.{list_any, AllByRecursion};
 ghost use Rattle.fork_disk.specs.Disk.{Counts};
 ghost use Rattle.hfs_tree.specs.Reads.{Learns, HasBytes, CountsReads};
@@ -25,8 +25,8 @@ const MOST_ENTRIES: u64 = 1024;
 /// How many bytes a map has from entry to entry, and how many the blocks have that its entries count.
 #[derive(Clone, Copy, Debug, PartialEq, Eq)]
 pub struct Grid {
-    pub step: u32,
-    pub unit: u32,
+    pub step: u16,
+    pub unit: u16,
 }
 
 /// What an entry of a map says.
@@ -113,7 +113,8 @@ fn read_map<D: ForkDisk>(
     ensures cause { CountsReads (D.failures disk.old) (D.failures disk.new) result }
 {
     let step = grid.step as u64;
-    if !is_marked(disk, view, grid)? {
+    let marked = is_marked(disk, view, grid)?;
+    if !marked {
         return Ok(Err(ImageFault::Mark(1, step)));
     }
     let count = view.number(disk, 4, step + 4)?;
@@ -184,12 +185,12 @@ fn leads<D: ForkDisk>(
 }
 
 /// The grids that a map may have, where the driver map says so many bytes a block.
-fn grids_of(size: u16) -> [Grid; 3]
+fn grids_of(size: u64) -> [Grid; 3]
     ensures { result ≡ grids_of size }
 {
     let plain = 512;
-    let unit = if size > 512 && size % 512 == 0 {
-        size as u32
+    let unit = if 512 < size && size < 65536 && size % 512 == 0 {
+        size as u16
     } else {
         plain
     };
@@ -214,6 +215,7 @@ fn find_leading<D: ForkDisk>(
     requires size { HasBytes D.ForkDisk disk.old (λ file. view.now.file ≡ length file) }
     requires wide { AllByRecursion IsWide grids.now }
     ensures reads { D.is_honest disk.new → Learns D.ForkDisk disk.old disk.new (λ file. IfOk result (λ found. found ≡ find (leads (bytes_in view.now file)) grids.now)) }
+    ensures wide { IfOk result (λ found. IfSome found IsWide) }
     ensures cause { CountsReads (D.failures disk.old) (D.failures disk.new) result }
 {
     for grid in grids {
@@ -232,7 +234,9 @@ fn find_marked<D: ForkDisk>(
 ) -> Result<Option<Grid>, DiskFault>
     requires sound { IsView view.now }
     requires size { HasBytes D.ForkDisk disk.old (λ file. view.now.file ≡ length file) }
+    requires wide { AllByRecursion IsWide grids.now }
     ensures reads { D.is_honest disk.new → Learns D.ForkDisk disk.old disk.new (λ file. IfOk result (λ found. found ≡ find (is_marked (bytes_in view.now file)) grids.now)) }
+    ensures wide { IfOk result (λ found. IfSome found IsWide) }
     ensures cause { Counts (D.failures disk.old) (D.failures disk.new) result }
 {
     for grid in grids {
@@ -251,7 +255,7 @@ fn find_grid<D: ForkDisk>(alloc: Global, disk: &mut D, view: &View) -> Result<Gr
     ensures wide { IfOk result IsWide }
     ensures cause { CountsReads (D.failures disk.old) (D.failures disk.new) result }
 {
-    let size = view.number(disk, 2, 2)? as u16;
+    let size = view.number(disk, 2, 2)?;
     let grids = grids_of(size);
     if let Some(grid) = find_leading(alloc, disk, view, &grids)? {
         return Ok(grid);

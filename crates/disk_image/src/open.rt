@@ -28,9 +28,28 @@ pub fn open_volume<D: ForkDisk>(disk: D, found: Found) -> RangesDisk<D>
     RangesDisk::new(disk, found.view.ranges)
 }
 
-/// A fork of a file as a disk, where the volume that was read has these ranges of a disk; or the first condition that
-/// doesn't hold of it. The only error is that the host has no memory.
+/// A fork of a file as a disk, on the disk that is its volume; or the first condition that doesn't hold of it. The only
+/// error is that the host has no memory.
 pub fn open_fork<D: ForkDisk + Drop>(
+    alloc: Global,
+    disk: D,
+    volume: &Volume,
+    file: &Entry,
+    which: Which,
+) -> Result<Result<RangesDisk<D>, ForkFault>, AllocError>
+    requires { HasBytes D.ForkDisk disk (λ bytes. volume.now.size ≡ length bytes) }
+    ensures { IfOk result (λ found. MatchResult found
+        (λ fork. IsFork D.ForkDisk disk (D.seen disk) (read_of volume.now) file.now which fork)
+        (λ fault. fork_fault (read_of volume.now) file.now which ≡ Some fault)) }
+{
+    match ranges_of_fork(alloc, volume, file, which)? {
+        Ok(ranges) => Ok(Ok(RangesDisk::new(disk, ranges))),
+        Err(fault) => Ok(Err(fault)),
+    }
+}
+
+/// The same on a disk of which the volume has these ranges.
+pub fn open_fork_within<D: ForkDisk + Drop>(
     alloc: Global,
     disk: D,
     place: &[Range],
@@ -42,7 +61,7 @@ pub fn open_fork<D: ForkDisk + Drop>(
     requires inside { HasBytes D.ForkDisk disk (λ bytes. AllByRecursion (IsInDisk (length bytes)) place.now) }
     requires size { HasBytes D.ForkDisk disk (λ bytes. volume.now.size ≡ length (bytes_of place.now bytes)) }
     ensures { IfOk result (λ found. MatchResult found
-        (λ fork. IsFork D.ForkDisk disk place.now (read_of volume.now) file.now which fork)
+        (λ fork. IsFork D.ForkDisk disk (bytes_of place.now (D.seen disk)) (read_of volume.now) file.now which fork)
         (λ fault. fork_fault (read_of volume.now) file.now which ≡ Some fault)) }
 {
     let inner = match ranges_of_fork(alloc, volume, file, which)? {

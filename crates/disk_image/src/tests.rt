@@ -327,3 +327,51 @@ fn finds_partitions_of_other_maps(rt: HostRuntime) {
         &[(1, Ok((Format::Mfs, volume)))],
     );
 }
+
+/// A volume of 14 blocks, which a partition has: its catalog has a file, whose data fork has five bytes in block 3.
+const VOLUME: [Piece<'static>; 14] = [
+    (1024, b"BD"),
+    (1042, b"\x00\x0C\x00\x00\x02\x00"),
+    (1052, b"\x00\x04"),
+    (1060, b"\x04Disk"),
+    (1170, b"\x00\x00\x04\x00\x00\x00\x00\x02"),
+    (2056, b"\x01"),
+    (2072, b"\x00\x00\x00\x01"),
+    (2080, b"\x02\x00"),
+    (2568, b"\xFF\x01\x00\x01"),
+    (2574, b"\x0D\x00\x00\x00\x00\x02\x07Read me\x02"),
+    (2614, b"\x00\x00\x00\x05"),
+    (2662, b"\x00\x03\x00\x01"),
+    (3068, b"\x00\x82\x00\x0E"),
+    (3584, b"hello"),
+];
+
+/// The first five bytes of the data fork of the first file of the first volume of an image.
+fn first_bytes(alloc: Global, bytes: Vec<u8>) -> Option<[u8; 5]> {
+    let mut disk = MemDisk::from_bytes(bytes);
+    let image = read_image(alloc, &mut disk).ok()?;
+    let found = image.into_volume(0)?.ok()?;
+    let mut volume_disk = open_volume(disk, found);
+    let volume = read_volume(alloc, &mut volume_disk).ok()?;
+    let file = volume.entries.first()?;
+    let mut fork = open_fork(alloc, volume_disk, &volume, file, Which::Data)
+        .ok()?
+        .ok()?;
+    let mut buffer = [0; 5];
+    if fork.len() == Ok(5) && fork.read_at(0, &mut buffer).is_ok() {
+        Some(buffer)
+    } else {
+        None
+    }
+}
+
+#[test]
+fn opens_a_fork_in_a_partition(rt: HostRuntime) -> Result<(), Fail> {
+    let mut bytes = bytes_with(rt.alloc(), 10240, &ENTRIES)?;
+    for (at, piece) in &VOLUME {
+        put(&mut bytes, 3072 + *at, piece);
+    }
+    put(&mut bytes, 1039, b"\x0E");
+    assert_eq!(rt; first_bytes(rt.alloc(), bytes), Some(*b"hello"));
+    Ok(())
+}

@@ -1,5 +1,5 @@
-use Rattle.std.proofs.Common.{◌≡◌, ◌-◌, ℕ, List, length, take, replicate, refl, ap, ◌∙◌, arith}
-use Rattle.std.proofs.lemmas.List.{length-take-le, length-replicate}
+use Rattle.std.proofs.Common.{◌≡◌, ℕ, List, [], ◌∷◌, length, take, refl, ap, ◌∙◌, arith}
+use Rattle.std.proofs.lemmas.List.{length-take-le}
 use Rattle.fork_disk.specs.Disk.{bytes_at}
 use Rattle.disk_image.specs.Devices.{bytes_in}
 use Rattle.disk_image.proofs.Views.{view_length, number_is, no_number}
@@ -24,10 +24,8 @@ returns-clause-reads g c = λ honest.
     let file = g.D.ForkDisk.seen c.args.disk.now in
     let bytes = bytes_in c.args.self.now file in
     let long = view_length c.args.self.now file c.requires.sound (c.requires.size read.keeps.honest) in
-    let none : c.args.count - 0 ≡ c.args.count = omega arith in
-    let eight = length-replicate {A = ℕ} 8 0 in
-    let wanted : length (take (c.args.count - 0) (replicate 8 0)) ≡ c.args.count =
-    rw none (length-take-le c.args.count (replicate 8 0) (omega (arith, c.requires.few, eight))) in
+    let zeros : List ℕ = 0 ∷ 0 ∷ 0 ∷ 0 ∷ 0 ∷ 0 ∷ 0 ∷ 0 ∷ [] in
+    let wanted : length (take c.args.count zeros) ≡ c.args.count = length-take-le c.args.count zeros (omega (arith, c.requires.few)) in
     let is : c.read.new.buffer ≡ bytes_at c.args.count c.args.at bytes = read.known ∙ ap (λ (k : ℕ). bytes_at k c.args.at bytes) wanted in
     record {
       keeps = read.keeps;
