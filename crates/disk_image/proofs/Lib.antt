@@ -1,0 +1,9 @@
+pub mod Views
+pub mod Sectors
+pub mod PartsRead
+pub mod VolumesPlaced
+pub mod DevicesFound
+pub mod KnownBy
+pub mod MapsRead
+pub mod VolumesFound
+pub mod Opened
