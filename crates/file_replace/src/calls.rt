@@ -1,7 +1,8 @@
 //! The calls that were made at a path of the host, for clauses alone.
 
 ghost use Rattle.std.specs.Prelude.{◌≡◌, [], ◌∷◌};
-ghost use Rattle.file_replace.specs.declared.calls.HeldCall.TheVariants.{Asked, OpenFolder, Put, Stream};
+ghost use Rattle.file_replace.specs.declared.calls.HeldCall.TheVariants as held;
+ghost use Rattle.file_replace.specs.declared.calls.HeldCall.TheVariants.{Asked, OpenFolder, Put};
 
 use crate::place::FolderSync;
 use crate::prepared::Stream;
@@ -99,7 +100,7 @@ pub(crate) fn note_stream(
     _calls: &StreamCalls,
 )
     requires { _calls.now.events ≡ record { file = stream.now.file; bytes = stream.now.bytes.now; is_done = is_done } ∷ [] }
-    ensures { log.new.events ≡ Stream is_done stream.now.bytes.now ∷ log.old.events }
+    ensures { log.new.events ≡ held.Stream is_done stream.now.bytes.now ∷ log.old.events }
 {
     *log = Record::of_events_beside(log, &is_done, &stream.bytes);
 }
