@@ -43,7 +43,15 @@ impl Image {
         ensures value { IfSome result (λ found. IsVolumeAt index self.contents.volumes.items found) }
         ensures none { IfNone result (length self.contents.volumes.items ≤ index) }
     {
-        let mut volumes = self.contents.volumes;
+        let Image {
+            size: _,
+            known: _,
+            contents,
+        } = self;
+        let Contents {
+            parts: _,
+            mut volumes,
+        } = contents;
         if index >= volumes.len() {
             return None;
         }
