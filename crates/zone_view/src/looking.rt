@@ -74,7 +74,7 @@ fn bytes_from(bytes: &[u8], at: u32) -> &[u8]
 }
 
 /// What is found in memory.
-fn seen(alloc: Global, dump: &Dump) -> Result<Seen, AllocError>
+fn all_seen(alloc: Global, dump: &Dump) -> Result<Seen, AllocError>
     ensures seen { IfOk result (λ seen. IsLook dump.now seen.found seen.blocks.items) }
     ensures some { (found : Found) × (blocks : List Block) × IsLook dump.now found blocks }
 {
@@ -95,7 +95,7 @@ fn show<W: Write>(
     ensures { ShowsZone request.now bytes.now (W.contents output.old) (W.contents output.new) result }
 {
     let dump = Dump::new(request.heads, request.base, bytes_from(bytes, request.skipped));
-    let Seen { found, blocks } = seen(alloc, &dump)?;
+    let Seen { found, blocks } = all_seen(alloc, &dump)?;
     write_look(alloc, request.is_json, blocks.as_slice(), found, output)?;
     Ok(status_of(found))
 }
