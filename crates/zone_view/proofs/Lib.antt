@@ -1,1 +1,3 @@
 mod Found
+mod Written
+mod Counted

@@ -1,6 +1,6 @@
 -- What is found of a zone, as text.
-use Rattle.std.specs.Prelude.{ℕ, ◌^◌, ◌-◌, ◌==◌, ◌&&◌, not, min, length, map, sum, Bool, true, false, if◌then◌else◌, List, [], ◌∷◌, ◌++◌, drop, codes, Option, Some, None}
-use Rattle.std.specs.List.{filter, flat_map}
+use Rattle.std.specs.Prelude.{ℕ, ◌^◌, ◌-◌, ◌&&◌, not, min, length, Bool, true, false, if◌then◌else◌, List, [], ◌∷◌, ◌++◌, drop, codes, Option, Some, None}
+use Rattle.std.specs.List.{filter, flat_map, sum_by}
 use Rattle.std.specs.Fmt.{decimal, digits, format_spec, padded_integral}
 use Rattle.mac_base.specs.declared.block.Block.{Block}
 use Rattle.mac_base.specs.declared.block.Flags.{Flags}
@@ -109,7 +109,7 @@ blocks_of class blocks = filter (is_of class) blocks
 
 -- how many bytes blocks have together; a number that no zone comes near stays at its last value
 abbrev pub bytes_of : List Block → ℕ
-bytes_of blocks = min (sum (map (λ block. block.entry.size) blocks)) (2 ^ 64 - 1)
+bytes_of blocks = min (sum_by (λ block. block.entry.size) blocks) (2 ^ 64 - 1)
 
 -- how many blocks are of a class, and how many bytes these have
 abbrev pub share_text : Class → List Block → List ℕ

@@ -452,8 +452,11 @@ fn write_rows<W: Write>(
 {
     let mut rest = blocks;
     while !rest.is_empty() {
-        let (blocks, later) = rest.split_at(rest.len().min(ROWS));
-        let rows = Rows { is_json, blocks };
+        let (chunk, later) = rest.split_at(rest.len().min(ROWS));
+        let rows = Rows {
+            is_json,
+            blocks: chunk,
+        };
         let text = format!(in alloc; "{rows}")?;
         write(text.as_bytes(), output)?;
         rest = later;
