@@ -1,3 +1,6 @@
 mod Found
 mod Written
 mod Counted
+mod Noted
+mod AllSeen
+mod Ending

@@ -2,6 +2,8 @@
 use Rattle.std.proofs.Common.{◌≡◌, ℕ, List, [], ◌++◌, Option, Result, Ok, Err, refl, sym, ap, ◌∙◌, append_assoc}
 use Rattle.std.specs.Io.KnownBytes.{Appends}
 use Rattle.std.proofs.KnownBytes.{Appends-nil, Appends-trans}
+use Rattle.std.specs.Result.{IsErrAnd}
+use Rattle.zone_view.specs.declared.writing.NotWritten.{NotWritten}
 use Rattle.zone_view.specs.Writing.{Writes, WritesFront}
 
 -- nothing was written of a text
@@ -18,6 +20,11 @@ front_after text more old mid new whole (front, rest, is, wrote) =
     (text ++ front, rest, ap (λ (t : List ℕ). text ++ t) is ∙ sym (append_assoc text front rest), Appends-trans _ _ _ _ _ whole wrote)
 
 -- after a whole text, what follows
-pub writes_after : {T : Type 0} (text more : List ℕ) (old mid new : Option (List ℕ)) (result : Result T _) → Appends old mid text → Writes more mid new result → Writes (text ++ more) old new result
+pub writes_after : {T : Type 0} (text more : List ℕ) (old mid new : Option (List ℕ)) (result : Result T NotWritten) → Appends old mid text → Writes more mid new result → Writes (text ++ more) old new result
 writes_after text more old mid new (Ok done) whole wrote = Appends-trans _ _ _ _ _ whole wrote
 writes_after text more old mid new (Err why) whole wrote = front_after text more old mid new whole wrote
+
+-- an error after a front
+pub fails : {T : Type 0} {P : NotWritten → Type 0} (text : List ℕ) (old new : Option (List ℕ)) (r : Result T NotWritten) → IsErrAnd r P → WritesFront text old new → Writes text old new r
+fails text old new (Ok done) no front = absurd no
+fails text old new (Err why) is front = front

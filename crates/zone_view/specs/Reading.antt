@@ -1,6 +1,5 @@
 -- How the bytes of a file are read that is looked at.
-use Rattle.std.specs.Prelude.{◌≡◌, ◌≢◌, ◌⊎◌, ℕ, Bool, true, false, List, ◌∷◌, Some, None, Result, Ok, Err, length, ◌≤◌}
-use Rattle.std.specs.Prelude.{Vec}
+use Rattle.std.specs.Prelude.{◌≡◌, ◌⊎◌, ⊤, ℕ, ◌≤◌, true, false, List, ◌∷◌, length, Some, None, Result, Ok, Err, Vec}
 use Rattle.std.specs.Global.{Global}
 use Rattle.std.specs.declared.fs.File.{File}
 use Rattle.clap.specs.Words.{Text}
@@ -32,6 +31,12 @@ abbrev pub answer_of : Result (Vec ℕ Global) NotRead → ReadAnswer
 answer_of (Ok bytes) = answers.Bytes bytes.items
 answer_of (Err not_read.TooLong) = answers.TooLong
 answer_of (Err other) = answers.Failed
+
+-- an open file isn't read: it is too long, it fails, or the host has no memory for it
+abbrev pub IsReadFault : NotRead → Type 0
+IsReadFault not_read.TooLong = ⊤
+IsReadFault (not_read.Failed error) = ⊤
+IsReadFault other = ⊥
 
 -- A path led to a plain file; it was opened to be read, asked what it is, and is this plain file.
 abbrev pub IsOpened : Text → File → Log → Log → Type 0

@@ -11,8 +11,9 @@ use Rattle.zone_look.specs.declared.fault.Fault.{Fault}
 use Rattle.zone_look.specs.declared.fault.Problem.{Problem}
 use Rattle.zone_look.specs.declared.fault.Problem.TheVariants.{ShortZone, LowLimit, HighLimit, CutHeader, Overlaps, LeavesZone, OddSize, BadTag, BadZone, BadHandle, BadMaster, BadFree, EndlessFree}
 use Rattle.zone_look.specs.declared.looking.Found.{Found}
+use Rattle.zone_view.specs.declared.shown.Share.{Share}
 use Rattle.zone_view.specs.declared.shown.Class.{Class}
-use Rattle.zone_view.specs.declared.shown.Class.TheVariants as class
+use Rattle.zone_view.specs.declared.shown.Class.TheVariants as classes
 
 -- an address: a dollar sign and eight hexadecimal digits
 abbrev pub address_text : ℕ → List ℕ
@@ -95,12 +96,12 @@ abbrev pub is_of : Class → Block → Bool
 is_of class block = of_kind class block.entry.kind block.flags
   where
     of_kind : Class → Kind → Flags → Bool
-    of_kind class.Free Free flags = true
-    of_kind class.Fixed Master flags = true
-    of_kind class.Fixed (Ptr pointer) flags = true
-    of_kind class.Relocatable (Rel handle) flags = true
-    of_kind class.Locked (Rel handle) flags = flags.lock
-    of_kind class.Purgeable (Rel handle) flags = flags.purge && not flags.lock
+    of_kind classes.Free Free flags = true
+    of_kind classes.Fixed Master flags = true
+    of_kind classes.Fixed (Ptr pointer) flags = true
+    of_kind classes.Relocatable (Rel handle) flags = true
+    of_kind classes.Locked (Rel handle) flags = flags.lock
+    of_kind classes.Purgeable (Rel handle) flags = flags.purge && not flags.lock
     of_kind other kind flags = false
 
 -- the blocks of a class
@@ -112,13 +113,21 @@ abbrev pub bytes_of : List Block → ℕ
 bytes_of blocks = min (sum_by (λ block. block.entry.size) blocks) (2 ^ 64 - 1)
 
 -- how many blocks are of a class, and how many bytes these have
-abbrev pub share_text : Class → List Block → List ℕ
-share_text class blocks = decimal (length (blocks_of class blocks)) ++ (codes " (" ++ (decimal (bytes_of (blocks_of class blocks)) ++ codes " bytes)"))
+abbrev pub share_of : Class → List Block → Share
+share_of class blocks = record { count = length (blocks_of class blocks); bytes = bytes_of (blocks_of class blocks) }
+
+-- a number of blocks and of their bytes
+abbrev pub share_text : Share → List ℕ
+share_text share = decimal share.count ++ (codes " (" ++ (decimal share.bytes ++ codes " bytes)"))
+
+-- these totals in a line
+abbrev pub totals_text : Share → Share → Share → Share → Share → List ℕ
+totals_text free fixed relocatable locked purgeable = codes "free " ++ (share_text free ++ (codes ", nonrelocatable " ++ (share_text fixed ++ (codes ", relocatable " ++ (share_text relocatable
+    ++ (codes ": locked " ++ (share_text locked ++ (codes ", purgeable " ++ (share_text purgeable ++ 10 ∷ [])))))))))
 
 -- the totals of all blocks, in a line
 abbrev pub totals_line : List Block → List ℕ
-totals_line blocks = codes "free " ++ (share_text class.Free blocks ++ (codes ", nonrelocatable " ++ (share_text class.Fixed blocks ++ (codes ", relocatable " ++ (share_text class.Relocatable blocks
-    ++ (codes ": locked " ++ (share_text class.Locked blocks ++ (codes ", purgeable " ++ (share_text class.Purgeable blocks ++ 10 ∷ [])))))))))
+totals_line blocks = totals_text (share_of classes.Free blocks) (share_of classes.Fixed blocks) (share_of classes.Relocatable blocks) (share_of classes.Locked blocks) (share_of classes.Purgeable blocks)
 
 -- the number of free master pointers and the trailer's size, in a line
 abbrev pub masters_line : Found → List ℕ

@@ -1,7 +1,7 @@
 //! The bytes of the file that is looked at.
 
-ghost use Rattle.std.specs.Prelude.{◌≡◌, ◌∷◌, ◌≤◌, IfOk, length};
-ghost use Rattle.zone_view.specs.Reading.{IsReading, Opens, answer_of, most_bytes};
+ghost use Rattle.std.specs.Prelude.{◌≡◌, ◌∷◌, ◌≤◌, IfErr, IfOk, length};
+ghost use Rattle.zone_view.specs.Reading.{IsReadFault, IsReading, Opens, answer_of, most_bytes};
 
 use fork_disk::Record;
 use host_paths::{Access, HostCalls, found_of, found_over, open};
@@ -96,7 +96,8 @@ fn read_file(alloc: Global, file: &File) -> io::Result<Vec<u8>> {
 
 /// All bytes of an open file that has no more than are read.
 fn read_within(alloc: Global, file: &File) -> Result<Vec<u8>, NotRead>
-    ensures { IfOk result (λ bytes. length bytes.items ≤ most_bytes) }
+    ensures few { IfOk result (λ bytes. length bytes.items ≤ most_bytes) }
+    ensures fault { IfErr result IsReadFault }
 {
     let bytes = read_file(alloc, file)?;
     if bytes.len() as u64 > MOST {
@@ -120,6 +121,7 @@ fn read_noted(
 ) -> Result<Vec<u8>, NotRead>
     ensures noted { reads.new.events ≡ (file.now, answer_of result) ∷ reads.old.events }
     ensures few { IfOk result (λ bytes. length bytes.items ≤ most_bytes) }
+    ensures fault { IfErr result IsReadFault }
 {
     let read = read_within(alloc, file);
     note_read(reads, file, &read);

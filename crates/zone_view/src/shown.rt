@@ -1,8 +1,8 @@
 //! What is found of a zone, as lines of text or as JSON.
 
-ghost use Rattle.std.specs.Prelude.{◌≡◌, List, ◌∷◌, length, Some};
+ghost use Rattle.std.specs.Prelude.{◌≡◌, IfSome, Some, length};
 ghost use Rattle.std.specs.List.{flat_map};
-ghost use Rattle.zone_view.specs.Shown.{address_text, block_line, block_object, blocks_of, bytes_of, closing_text, fault_line, fault_object, flags_text, handle_members, is_of, kind_text, kind_word, look_text, masters_line, opening_text, problem_text, row_text, rows_of, share_text, totals_line};
+ghost use Rattle.zone_view.specs.Shown.{address_text, block_line, block_object, blocks_of, bytes_of, closing_text, fault_line, fault_object, flags_text, handle_members, is_of, kind_text, kind_word, look_text, masters_line, opening_text, problem_text, row_text, rows_of, totals_line};
 ghost use Rattle.zone_view.specs.Writing.{Writes};
 
 use crate::writing::{NotWritten, write};
@@ -273,10 +273,9 @@ fn share_of(blocks: &[Block], class: Class) -> Share
 }
 
 impl fmt::Display for Share {
-    ghost use Rattle.std.specs.Prelude.{codes, ◌++◌};
-    ghost use Rattle.std.specs.Fmt.{decimal};
+    ghost use Rattle.zone_view.specs.Shown.{share_text};
 
-    ghost output = { λ s. Some (decimal s.count ++ (codes " (" ++ (decimal s.bytes ++ codes " bytes)"))) };
+    ghost output = { λ s. Some (share_text s) };
 
     fn fmt<W: fmt::Write>(&self, f: &mut fmt::Formatter<W>) -> fmt::Result {
         let count = self.count;
@@ -305,95 +304,67 @@ impl fmt::Display for Totals<'_> {
     }
 }
 
-/// What is found beside the blocks, as lines.
+/// The number of free master pointers and the trailer's size, in a line.
 #[derive(Clone, Copy)]
-struct ClosingLines<'a> {
+struct Masters(Found);
+
+impl fmt::Display for Masters {
+    ghost output = { λ m. Some (masters_line m.0) };
+
+    fn fmt<W: fmt::Write>(&self, f: &mut fmt::Formatter<W>) -> fmt::Result {
+        let count = self.0.free_masters;
+        let trailer = self.0.trailer;
+        write!(f, "{count} free master pointers, trailer of {trailer} bytes\n")
+    }
+}
+
+/// What is shown after the rows: what is found beside the blocks.
+#[derive(Clone, Copy)]
+struct Closing<'a> {
+    is_json: bool,
     blocks: &'a [Block],
     found: Found,
 }
 
-impl fmt::Display for ClosingLines<'_> {
-    ghost use Rattle.std.specs.Prelude.{false};
-
-    ghost output = { λ c. Some (closing_text false c.blocks.now c.found) };
+impl fmt::Display for Closing<'_> {
+    ghost output = { λ c. Some (closing_text c.is_json c.blocks.now c.found) };
 
     fn fmt<W: fmt::Write>(&self, f: &mut fmt::Formatter<W>) -> fmt::Result {
-        let totals = Totals(self.blocks);
-        let Found {
-            blocks: _,
-            free_masters,
-            trailer,
-            fault,
-        } = self.found;
-        let fault = FaultLine(fault);
-        write!(
-            f,
-            "{totals}{free_masters} free master pointers, trailer of {trailer} bytes\n{fault}"
-        )
+        if self.is_json {
+            let count = self.found.free_masters;
+            let trailer = self.found.trailer;
+            let fault = FaultObject(self.found.fault);
+            write!(
+                f,
+                "],\n\"free_masters\":{count},\"trailer\":{trailer},\n\"fault\":{fault}}}\n"
+            )
+        } else {
+            let totals = Totals(self.blocks);
+            let masters = Masters(self.found);
+            let fault = FaultLine(self.found.fault);
+            write!(f, "{totals}{masters}{fault}")
+        }
     }
 }
 
-/// What is found beside the blocks, as JSON.
+/// What is shown before the rows: of JSON the name of the list, and the first block.
 #[derive(Clone, Copy)]
-struct ClosingObject<'a> {
+struct Opening<'a> {
+    is_json: bool,
     blocks: &'a [Block],
-    found: Found,
 }
 
-impl fmt::Display for ClosingObject<'_> {
-    ghost use Rattle.std.specs.Prelude.{true};
-
-    ghost output = { λ c. Some (closing_text true c.blocks.now c.found) };
+impl fmt::Display for Opening<'_> {
+    ghost output = { λ o. Some (opening_text o.is_json o.blocks.now) };
 
     fn fmt<W: fmt::Write>(&self, f: &mut fmt::Formatter<W>) -> fmt::Result {
-        let Found {
-            blocks: _,
-            free_masters,
-            trailer,
-            fault,
-        } = self.found;
-        let fault = FaultObject(fault);
-        write!(
-            f,
-            "],\n\"free_masters\":{free_masters},\"trailer\":{trailer},\n\"fault\":{fault}}}\n"
-        )
-    }
-}
-
-/// Writes what comes after the rows: what is found beside the blocks.
-fn write_closing<W: Write>(
-    alloc: Global,
-    is_json: bool,
-    blocks: &[Block],
-    found: Found,
-    output: &mut W,
-) -> Result<(), NotWritten>
-    ensures { Writes (closing_text is_json blocks.now found) (W.contents output.old) (W.contents output.new) result }
-{
-    let text = if is_json {
-        format!(in alloc; "{}", ClosingObject { blocks, found })?
-    } else {
-        format!(in alloc; "{}", ClosingLines { blocks, found })?
-    };
-    write(text.as_bytes(), output)
-}
-
-/// Writes what comes before the rows: of JSON the name of the list, and the first block.
-fn write_opening<W: Write>(
-    alloc: Global,
-    is_json: bool,
-    blocks: &[Block],
-    output: &mut W,
-) -> Result<(), NotWritten>
-    ensures { Writes (opening_text is_json blocks.now) (W.contents output.old) (W.contents output.new) result }
-{
-    match (is_json, blocks) {
-        (false, _) => Ok(()),
-        (true, []) => write(b"{\"blocks\":[", output),
-        (true, [first, ..]) => {
-            let first = BlockObject(*first);
-            let text = format!(in alloc; "{{\"blocks\":[\n{first}")?;
-            write(text.as_bytes(), output)
+        match (self.is_json, self.blocks) {
+            (false, _) => Ok(()),
+            (true, []) => write!(f, "{{\"blocks\":["),
+            (true, [first, ..]) => {
+                let first = BlockObject(*first);
+                write!(f, "{{\"blocks\":[\n{first}")
+            }
         }
     }
 }
@@ -441,6 +412,18 @@ impl fmt::Display for Rows<'_> {
     }
 }
 
+/// Writes what a value shows.
+fn write_shown<D: fmt::Display + Drop, W: Write>(
+    alloc: Global,
+    value: D,
+    output: &mut W,
+) -> Result<(), NotWritten>
+    ensures { IfSome (D.output value) (λ text. Writes text (W.contents output.old) (W.contents output.new) result) }
+{
+    let text = format!(in alloc; "{value}")?;
+    write(text.as_bytes(), output)
+}
+
 /// Writes a row of each block.
 fn write_rows<W: Write>(
     alloc: Global,
@@ -457,8 +440,7 @@ fn write_rows<W: Write>(
             is_json,
             blocks: chunk,
         };
-        let text = format!(in alloc; "{rows}")?;
-        write(text.as_bytes(), output)?;
+        write_shown(alloc, rows, output)?;
         rest = later;
     }
     Ok(())
@@ -484,7 +466,12 @@ pub(crate) fn write_look<W: Write>(
 ) -> Result<(), NotWritten>
     ensures { Writes (look_text is_json blocks.now found) (W.contents output.old) (W.contents output.new) result }
 {
-    write_opening(alloc, is_json, blocks, output)?;
+    write_shown(alloc, Opening { is_json, blocks }, output)?;
     write_rows(alloc, is_json, rows_of(is_json, blocks), output)?;
-    write_closing(alloc, is_json, blocks, found, output)
+    let closing = Closing {
+        is_json,
+        blocks,
+        found,
+    };
+    write_shown(alloc, closing, output)
 }

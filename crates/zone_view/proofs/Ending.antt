@@ -1,0 +1,19 @@
+-- How what was asked for makes a look's end.
+use Rattle.std.proofs.Common.{◌≡◌, ℕ, List, Option, Err, refl, inl, inr}
+use Rattle.clap.specs.Words.{Text, kind_of}
+use Rattle.zone_view.specs.declared.asked.NotAsked.{NotAsked}
+use Rattle.zone_view.specs.declared.asked.NotAsked.TheVariants.{Words, Help, NoFile, NoNumber, Mode, Before, HostFull}
+use Rattle.zone_view.specs.Asking.{Asks}
+use Rattle.zone_view.specs.Looking.{LookEnds, Refuses, full_words, helped, refused}
+use Rattle.zone_view.specs.Reading.{Acts}
+
+-- nothing was looked at, since the words ask for nothing
+pub was_refused : (words : List Text) (error : NotAsked) (acts : Acts) (old new : Option (List ℕ)) (silent : Type 0) (status : ℕ) → Asks words (Err error) → Refuses error old new silent status
+    → LookEnds words acts acts old new silent status
+was_refused words (Help text) acts old new silent status asks ends = helped asks refl ends
+was_refused words (Words fault) acts old new silent status asks ends = refused (inl (kind_of fault, asks.0)) refl ends.0 ends.1
+was_refused words NoFile acts old new silent status asks ends = refused (inr (inl asks)) refl ends.0 ends.1
+was_refused words (NoNumber option) acts old new silent status asks ends = refused (inr (inr (inl (option.now, asks)))) refl ends.0 ends.1
+was_refused words Mode acts old new silent status asks ends = refused (inr (inr (inr (inl asks)))) refl ends.0 ends.1
+was_refused words Before acts old new silent status asks ends = refused (inr (inr (inr (inr asks)))) refl ends.0 ends.1
+was_refused words HostFull acts old new silent status asks ends = full_words refl ends.0 ends.1
