@@ -1,6 +1,5 @@
 mod Found
 mod Written
-mod Counted
 mod Noted
 mod AllSeen
 mod Ending

@@ -1,5 +1,8 @@
 -- Texts that are written one after the other.
-use Rattle.std.proofs.Common.{◌≡◌, ℕ, List, [], ◌++◌, Option, Result, Ok, Err, refl, sym, ap, ◌∙◌, append_assoc}
+use Rattle.std.proofs.Common.{◌≡◌, ℕ, List, [], ◌++◌, Option, None, Some, Result, Ok, Err, refl, sym, ap, subst, ◌∙◌, append_assoc}
+use Rattle.std.specs.Prelude.{IfSome}
+use Rattle.std.specs.List.{flat_map}
+use Rattle.std.proofs.lemmas.Grind.{flat_map-append}
 use Rattle.std.specs.Io.KnownBytes.{Appends}
 use Rattle.std.proofs.KnownBytes.{Appends-nil, Appends-trans}
 use Rattle.std.specs.Result.{IsErrAnd}
@@ -25,6 +28,30 @@ writes_after text more old mid new (Ok done) whole wrote = Appends-trans _ _ _ _
 writes_after text more old mid new (Err why) whole wrote = front_after text more old mid new whole wrote
 
 -- an error after a front
-pub fails : {T : Type 0} {P : NotWritten → Type 0} (text : List ℕ) (old new : Option (List ℕ)) (r : Result T NotWritten) → IsErrAnd r P → WritesFront text old new → Writes text old new r
-fails text old new (Ok done) no front = absurd no
-fails text old new (Err why) is front = front
+pub fails : {T : Type 0} (text : List ℕ) (old new : Option (List ℕ)) (r : Result T NotWritten) (e : NotWritten) → IsErrAnd r (λ x. x ≡ e) → WritesFront text old new → Writes text old new r
+fails text old new (Ok done) e is front = absurd is
+fails text old new (Err why) e is front = front
+
+-- an error before anything is written of what a value shows
+pub shows_nothing : {T : Type 0} (shown : Option (List ℕ)) (contents : Option (List ℕ)) (r : Result T NotWritten) (e : NotWritten) → IsErrAnd r (λ x. x ≡ e)
+    → IfSome shown (λ text. Writes text contents contents r)
+shows_nothing None contents r e is = tt
+shows_nothing (Some text) contents r e is = fails text contents contents r e is (none_written text contents)
+
+module _ {X : Type 0} (row : X → List ℕ) (all done rest chunk later : List X) (are : all ≡ done ++ rest) (parts : rest ≡ chunk ++ later) where
+  -- some rows, the next ones, and those after them are all
+  pub all_are : all ≡ (done ++ chunk) ++ later
+  all_are = are ∙ ap (λ (xs : List X). done ++ xs) parts ∙ sym (append_assoc done chunk later)
+
+  rows_are : flat_map row all ≡ (flat_map row done ++ flat_map row chunk) ++ flat_map row later
+  rows_are = ap (flat_map row) all_are ∙ flat_map-append row (done ++ chunk) later ∙ ap (λ (t : List ℕ). t ++ flat_map row later) (flat_map-append row done chunk)
+
+  -- a front of the next ones
+  pub rows_cut : (old mid new : Option (List ℕ)) → Appends old mid (flat_map row done) → WritesFront (flat_map row chunk) mid new → WritesFront (flat_map row all) old new
+  rows_cut old mid new wrote front =
+      subst (λ (t : List ℕ). WritesFront t old new) (sym rows_are)
+      (front_of_more (flat_map row done ++ flat_map row chunk) (flat_map row later) old new (front_after (flat_map row done) (flat_map row chunk) old mid new wrote front))
+
+  -- the next ones
+  pub rows_more : (old mid new : Option (List ℕ)) → Appends old mid (flat_map row done) → Appends mid new (flat_map row chunk) → Appends old new (flat_map row (done ++ chunk))
+  rows_more old mid new wrote more = subst (Appends old new) (sym (flat_map-append row done chunk)) (Appends-trans old mid new _ _ wrote more)

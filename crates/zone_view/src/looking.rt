@@ -95,9 +95,15 @@ fn show<W: Write>(
     ensures { ShowsZone request.now bytes.now (W.contents output.old) (W.contents output.new) result }
 {
     let dump = Dump::new(request.heads, request.base, bytes_from(bytes, request.skipped));
-    let Seen { found, blocks } = all_seen(alloc, &dump)?;
-    write_look(alloc, request.is_json, blocks.as_slice(), found, output)?;
-    Ok(status_of(found))
+    let seen = all_seen(alloc, &dump)?;
+    write_look(
+        alloc,
+        request.is_json,
+        seen.blocks.as_slice(),
+        seen.found,
+        output,
+    )?;
+    Ok(status_of(seen.found))
 }
 
 /// Writes a message.

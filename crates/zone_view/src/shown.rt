@@ -413,12 +413,12 @@ impl fmt::Display for Rows<'_> {
 }
 
 /// Writes what a value shows.
-fn write_shown<D: fmt::Display + Drop, W: Write>(
+fn write_shown<D: fmt::Display, W: Write>(
     alloc: Global,
-    value: D,
+    value: &D,
     output: &mut W,
 ) -> Result<(), NotWritten>
-    ensures { IfSome (D.output value) (λ text. Writes text (W.contents output.old) (W.contents output.new) result) }
+    ensures { IfSome (D.output value.now) (λ text. Writes text (W.contents output.old) (W.contents output.new) result) }
 {
     let text = format!(in alloc; "{value}")?;
     write(text.as_bytes(), output)
@@ -440,7 +440,7 @@ fn write_rows<W: Write>(
             is_json,
             blocks: chunk,
         };
-        write_shown(alloc, rows, output)?;
+        write_shown(alloc, &rows, output)?;
         rest = later;
     }
     Ok(())
@@ -466,12 +466,13 @@ pub(crate) fn write_look<W: Write>(
 ) -> Result<(), NotWritten>
     ensures { Writes (look_text is_json blocks.now found) (W.contents output.old) (W.contents output.new) result }
 {
-    write_shown(alloc, Opening { is_json, blocks }, output)?;
+    let opening = Opening { is_json, blocks };
+    write_shown(alloc, &opening, output)?;
     write_rows(alloc, is_json, rows_of(is_json, blocks), output)?;
     let closing = Closing {
         is_json,
         blocks,
         found,
     };
-    write_shown(alloc, closing, output)
+    write_shown(alloc, &closing, output)
 }
