@@ -1,5 +1,5 @@
 -- All blocks of a zone, in as many rows.
-use Rattle.std.proofs.Common.{◌≡◌, ℕ, List, [], ◌++◌, length, take, drop, map, refl, sym, ap, subst, ◌∙◌, arith}
+use Rattle.std.proofs.Common.{◌≡◌, ℕ, List, ◌++◌, length, take, drop, map, sym, ap, subst, ◌∙◌, arith}
 use Rattle.std.proofs.lemmas.List.{append-nil, drop_all, map-id, take_all}
 use Rattle.mac_base.specs.declared.block.Block.{Block}
 use Rattle.zone_look.specs.Laws.{OneAnswer}

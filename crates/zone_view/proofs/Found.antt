@@ -1,5 +1,5 @@
 -- What the words ask for, from what `clap` found in them.
-use Rattle.std.proofs.Common.{◌≡◌, ℕ, true, List, [], Option, Result, Ok, Err, refl, sym, ap, subst, ◌∙◌, inl, inr}
+use Rattle.std.proofs.Common.{◌≡◌, true, List, [], Option, Result, Ok, Err, refl, sym, ap, subst, ◌∙◌, inl, inr}
 use Rattle.std.specs.Result.{IsErrAnd}
 use Rattle.clap.specs.declared.builder.command.Command.{Command}
 use Rattle.clap.specs.declared.error.Error.{Error}

@@ -1,12 +1,11 @@
 -- What was done with the host's files, as it is noted.
-use Rattle.std.proofs.Common.{◌≡◌, ◌≤◌, ◌∷◌, ℕ, List, length, Vec, Global, Result, Ok, Err, inl, inr}
+use Rattle.std.proofs.Common.{◌≡◌, ◌≤◌, ◌∷◌, ℕ, length, Vec, Global, Result, Ok, Err, inr}
 use Rattle.std.specs.Prelude.{IfErr, IfOk}
 use Rattle.std.specs.declared.fs.File.{File}
 use Rattle.clap.specs.Words.{Text}
-use Rattle.host_paths.specs.Asked.{Log}
 use Rattle.zone_view.specs.declared.reading.NotRead.{NotRead}
 use Rattle.zone_view.specs.declared.reading.NotRead.TheVariants as not_read
-use Rattle.zone_view.specs.Reading.{Acts, IsOpened, IsReadFault, IsReading, Reads, answer_of, most_bytes}
+use Rattle.zone_view.specs.Reading.{Acts, IsOpened, IsReadFault, IsReading, answer_of, most_bytes}
 
 -- the file was opened, and it was to be read
 pub was_read : (path : Text) (file : File) (r : Result (Vec ℕ Global) NotRead) (old new : Acts) → IsOpened path file old.calls new.calls → new.reads ≡ (file, answer_of r) ∷ old.reads

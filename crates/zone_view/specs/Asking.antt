@@ -1,5 +1,5 @@
 -- What the words of the command line ask to be looked at.
-use Rattle.std.specs.Prelude.{◌≡◌, ◌≢◌, ℕ, ◌+◌, ◌<◌, List, [], Option, Some, None, Result, Ok, Err, codes, bytes_eq, Bool, ◌||◌, ◌==◌}
+use Rattle.std.specs.Prelude.{◌≡◌, ◌≢◌, ℕ, ◌+◌, ◌<◌, List, [], Some, None, Result, Ok, Err, codes, bytes_eq, Bool, ◌||◌, ◌==◌}
 use Rattle.std.specs.List.{starts_with}
 use Rattle.clap.specs.Words.{Text, IsAmong, kind_of}
 use Rattle.clap.specs.declared.error.kind.ErrorKind.{ErrorKind}

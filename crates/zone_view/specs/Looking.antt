@@ -9,7 +9,7 @@ use Rattle.zone_look.specs.Look.{IsLook}
 use Rattle.zone_look.specs.Memory.{Memory}
 use Rattle.zone_look.specs.declared.looking.Found.{Found}
 use Rattle.zone_view.specs.declared.asked.NotAsked.{NotAsked}
-use Rattle.zone_view.specs.declared.asked.NotAsked.TheVariants.{Words, Help, NoFile, NoNumber, Mode, Before, HostFull}
+use Rattle.zone_view.specs.declared.asked.NotAsked.TheVariants.{Help, HostFull}
 use Rattle.zone_view.specs.declared.asked.Request.{Request}
 use Rattle.zone_view.specs.declared.writing.NotWritten.{NotWritten}
 use Rattle.zone_view.specs.declared.reading.NotRead.{NotRead}

@@ -1,4 +1,4 @@
-use Rattle.std.proofs.Common.{map, refl}
+use Rattle.std.proofs.Common.{map}
 use Rattle.zone_view.specs.Looking.{viewed}
 use Rattle.zone_view.proofs.Ending.{was_refused}
 use Rattle.zone_view.proofs.looking.looked.Goals as goal

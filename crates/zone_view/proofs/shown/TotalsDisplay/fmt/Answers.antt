@@ -1,7 +1,6 @@
 use Rattle.std.proofs.Common.{◌≡◌, ◌∙◌, List, ℕ, ap, ap₂, subst}
 use Rattle.std.specs.Fmt.{HasWritten}
 use Rattle.zone_view.specs.Shown.{share_of, totals_line, totals_text}
-use Rattle.zone_view.specs.declared.shown.Class.{Class}
 use Rattle.zone_view.specs.declared.shown.Class.TheVariants as classes
 use Rattle.zone_view.specs.declared.shown.Share.{Share}
 use Rattle.zone_view.proofs.shown.TotalsDisplay.fmt.Goals as goal
