@@ -41,11 +41,6 @@ module _ (disk : List ℕ) (grid : Grid) where
   unfolding parts_from
   no_part parts number left none = rw none (ap read_all (append-nil parts))
 
--- before the first there are none
-pub none_before : (rest : Result (List Part) ImageFault) → rest ≡ parts_before [] rest
-none_before (Ok others) = refl
-none_before (Err fault) = refl
-
 -- The same of the old map.
 pub old_more : (parts : List Part) (block entry : List ℕ) (index left more : ℕ) (part : Part) → left ≡ suc more → entry ≡ slice_range block (2 + 12 * index) (14 + 12 * index) → is_blank entry ≡ false
     → part ≡ old_part (index + 1) entry

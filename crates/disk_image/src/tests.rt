@@ -185,8 +185,8 @@ fn finds_volumes(rt: HostRuntime) {
     );
 }
 
-/// Entries of a partition map: three, of which the second is a volume of eight blocks from block 6 on, and the third has
-/// another type.
+/// Entries of a partition map: three, of which the second is a volume of eight blocks from block 6 on, and the third
+/// has another type.
 const ENTRIES: [Piece<'static>; 6] = [
     (
         512,
