@@ -2,13 +2,9 @@
 use Rattle.std.proofs.Common.{◌≡◌, ℕ, List, [], refl, sym, subst, ap₂, ◌∙◌}
 use Rattle.fork_disk.specs.Crash.{Finds}
 use Rattle.fork_disk.specs.Record.{Event}
-use Rattle.fork_journal.specs.Crash.{Contents, History, MayLeave}
+use Rattle.fork_journal.specs.Crash.{Contents}
 use Rattle.fork_journal.specs.Files.{history_of}
 use Rattle.fork_journal.specs.Recovery.{MayFind, settled_fork}
-
--- What is found on the disk of a pair is a fork that may be found after each history whose crash may leave this.
-pub found_there : (held : Contents) (history : History) → MayLeave history held → MayFind history (settled_fork held)
-found_there held history may = (held, may, refl)
 
 -- Both files were synced, so as long as nothing was asked of the pair a start finds no other fork.
 pub none_other : (held : List Event → Contents) (log : List Event) → log ≡ [] → Finds MayFind (λ found. found ≡ settled_fork (held log)) (history_of held log)

@@ -161,15 +161,14 @@ pub record RunsOver {S : Type 0} (store : Ghosts S) (sizes : ZoneSizes) (stores 
   pub status : done.told.status ≡ status_of end
   pub says : SaysWhy end done.told.silent done.told.tell_failed done.told.said
 
--- What a run is made of: what is asked of its files, what its stores do, alone and with a journal, which stores are made
--- of files, and what a crash after such a history may leave on the disk under a store.
+-- What a run is made of: what is asked of its files, what its stores do, alone and with a journal, and which stores are
+-- made of files.
 pub record Parts (F S J : Type 0) : Type 1 where
   pub files : Asking F
   pub store : Ghosts S
   pub with_journal : Ghosts J
   pub plain : ℕ → F → S → Type 0
   pub pairs : ℕ → F → F → J → Type 0
-  pub left : List with_journal.Event → J → Type 0
 
 -- no moments were noted
 abbrev pub NoneNoted : {S J : Type 0} → AnyMoments S J → Type 0

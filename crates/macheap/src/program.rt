@@ -79,7 +79,7 @@ pub fn program<
         × (O.openings opener.new ≡ O.openings opener.old ++ openings) × (O.closed opener.new ≡ O.closed opener.old ++ closed)
         × AnyNotes output.old.passed moments.old moments.new
         (λ noted. Did R.remaining W.contents M.contents input.old input.new output.old output.new messages.old messages.new result
-        (ProgramEnds (record { files = O.asking; store = S.ForkStore; with_journal = J.ForkStore; plain = O.plain; pairs = O.pairs; left = O.left }) (map T.text words.now) openings closed noted)) }
+        (ProgramEnds (record { files = O.asking; store = S.ForkStore; with_journal = J.ForkStore; plain = O.plain; pairs = O.pairs }) (map T.text words.now) openings closed noted)) }
     // So these are promised of each run, over forks alone and with journals: what its lines print is the replies of calls
     // with their promises; a crash at any moment leaves each file with a journal as that recovers it; and two runs on the
     // same print the same.
@@ -89,7 +89,7 @@ pub fn program<
     // been written, or what a later one saves.
     ensures kept { KeepsSeen S.ForkStore × KeepsSeen J.ForkStore }
     // Of a run that starts after a crash this rests on the disk alone.
-    ensures starts { StartsWhereLeft (record { files = O.asking; store = S.ForkStore; with_journal = J.ForkStore; plain = O.plain; pairs = O.pairs; left = O.left }) }
+    ensures starts { StartsWhereLeft (record { files = O.asking; store = S.ForkStore; with_journal = J.ForkStore; plain = O.plain; pairs = O.pairs }) }
     ensures exact { RunsAgree S.ForkStore × RunsAgree J.ForkStore }
     // Where something failed, the status says so.
     ensures no_read_failed { result ≢ 1 → input.new.failures ≡ input.old.failures }
@@ -115,7 +115,7 @@ fn answer<F: Drop, S: ForkStore, J: ForkStore, O: Opens<F, S, J>, R: Read, W: Wr
         × (O.openings opener.new ≡ O.openings opener.old ++ openings) × (O.closed opener.new ≡ O.closed opener.old ++ closed)
         × AnyNotes output.old.passed moments.old moments.new
         (λ noted. Did R.remaining W.contents M.contents input.old input.new output.old output.new messages.old messages.new result
-        (Answers (record { files = O.asking; store = S.ForkStore; with_journal = J.ForkStore; plain = O.plain; pairs = O.pairs; left = O.left }) asked.entry openings closed noted)) }
+        (Answers (record { files = O.asking; store = S.ForkStore; with_journal = J.ForkStore; plain = O.plain; pairs = O.pairs }) asked.entry openings closed noted)) }
     ensures no_read_failed { result ≢ 1 → input.new.failures ≡ input.old.failures }
     ensures no_write_failed { result ≢ 1 → output.new.failures ≡ output.old.failures }
 {
@@ -142,7 +142,7 @@ fn run_over<F: Drop, S: ForkStore, J: ForkStore, O: Opens<F, S, J>, R: Read, W: 
         × (O.openings opener.new ≡ O.openings opener.old ++ openings) × (O.closed opener.new ≡ O.closed opener.old ++ closed)
         × AnyNotes output.old.passed moments.old moments.new
         (λ noted. Did R.remaining W.contents M.contents input.old input.new output.old output.new messages.old messages.new result
-        (RunEnds (record { files = O.asking; store = S.ForkStore; with_journal = J.ForkStore; plain = O.plain; pairs = O.pairs; left = O.left })
+        (RunEnds (record { files = O.asking; store = S.ForkStore; with_journal = J.ForkStore; plain = O.plain; pairs = O.pairs })
         spec (map (λ name. name.now) files.now.forks.items) (map (λ name. name.now) files.now.journals.items) openings closed noted)) }
     ensures no_read_failed { result ≢ 1 → input.new.failures ≡ input.old.failures }
     ensures no_write_failed { result ≢ 1 → output.new.failures ≡ output.old.failures }
@@ -169,7 +169,7 @@ fn run_alone<F: Drop, S: ForkStore, J: ForkStore, O: Opens<F, S, J>, R: Read, W:
         × (O.openings opener.new ≡ O.openings opener.old ++ openings) × (O.closed opener.new ≡ O.closed opener.old ++ closed)
         × AnyNotes output.old.passed moments.old moments.new
         (λ noted. Did R.remaining W.contents M.contents input.old input.new output.old output.new messages.old messages.new result
-        (RunEnds (record { files = O.asking; store = S.ForkStore; with_journal = J.ForkStore; plain = O.plain; pairs = O.pairs; left = O.left })
+        (RunEnds (record { files = O.asking; store = S.ForkStore; with_journal = J.ForkStore; plain = O.plain; pairs = O.pairs })
         spec (map (λ name. name.now) files.now.forks.items) (map (λ name. name.now) files.now.journals.items) openings closed noted)) }
     ensures no_read_failed { result ≢ 1 → input.new.failures ≡ input.old.failures }
     ensures no_write_failed { result ≢ 1 → output.new.failures ≡ output.old.failures }
@@ -215,7 +215,7 @@ fn run_journalled<
         × (O.openings opener.new ≡ O.openings opener.old ++ openings) × (O.closed opener.new ≡ O.closed opener.old ++ closed)
         × AnyNotes output.old.passed moments.old moments.new
         (λ noted. Did R.remaining W.contents M.contents input.old input.new output.old output.new messages.old messages.new result
-        (RunEnds (record { files = O.asking; store = S.ForkStore; with_journal = J.ForkStore; plain = O.plain; pairs = O.pairs; left = O.left })
+        (RunEnds (record { files = O.asking; store = S.ForkStore; with_journal = J.ForkStore; plain = O.plain; pairs = O.pairs })
         spec (map (λ name. name.now) files.now.forks.items) (map (λ name. name.now) files.now.journals.items) openings closed noted)) }
     ensures no_read_failed { result ≢ 1 → input.new.failures ≡ input.old.failures }
     ensures no_write_failed { result ≢ 1 → output.new.failures ≡ output.old.failures }

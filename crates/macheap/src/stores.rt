@@ -41,15 +41,6 @@ pub trait Opens<F, S: ForkStore, J: ForkStore> {
     /// What is a store of this number of a fork and its journal, which are these files.
     ghost pairs: { ℕ → F → F → J → Type 0 };
 
-    /// What a crash after such a history may leave on the disk under a store with a journal.
-    ghost left: { List J.Event → J → Type 0 };
-
-    /// A store that is made of files has a fork that a start may find after each history of which a crash left this on
-    /// its disk, and a start finds no other until something happens to it.
-    ghost starts: { (number : ℕ) (fork journal : F) (store : J) → pairs number fork journal store
-        → ((history : List J.Event) → left history store → J.may_find history (J.fork store))
-        × Finds J.may_find (λ found. found ≡ J.fork store) (J.history store) };
-
     /// What is asked of a file: the file itself, which one it is, and the calls of the system by which it was opened.
     ghost asking: { Asking F };
 
@@ -82,6 +73,10 @@ pub trait Opens<F, S: ForkStore, J: ForkStore> {
     fn close(&mut self, store: AnyStore<S, J>)
         ensures closed { closed self.new ≡ closed self.old ++ store ∷ [] }
         ensures none_opened { openings self.new ≡ openings self.old };
+
+    /// Until something happens to a store that was just made of two files, which were synced, a start finds its fork and
+    /// no other.
+    ghost starts: { (number : ℕ) (fork journal : F) (store : J) → pairs number fork journal store → Finds J.may_find (λ found. found ≡ J.fork store) (J.history store) };
 }
 
 /// Closes a store, and notes it as it is.
@@ -119,9 +114,7 @@ impl<W: World, V: PairWorld> Opens<NewFile, PlainStore<Disk<W>>, Journal<FilePai
     for HostDisks<'_, PlainStore<Disk<W>>, Journal<FilePair<V>>> {
     ghost use Rattle.macheap.specs.Disks.{IsFile};
     ghost use Rattle.macheap.specs.Claiming.{as_opened};
-    ghost use Rattle.macheap.specs.OnDisk.{found_there, none_other};
-    ghost use Rattle.fork_journal.specs.Crash.{MayLeave};
-    ghost use Rattle.fork_journal.specs.OnFiles.{contents_in};
+    ghost use Rattle.macheap.specs.OnDisk.{none_other};
 
     ghost openings = { λ opener. opener.opened.events };
 
@@ -134,10 +127,7 @@ impl<W: World, V: PairWorld> Opens<NewFile, PlainStore<Disk<W>>, Journal<FilePai
     ghost pairs = { λ number fork journal store. (store.pair.fork ≡ record fork.file { which = 0 })
         × (store.pair.journal ≡ record journal.file { which = 1 }) × (store.pair.number ≡ number) × (store.pair.log.events ≡ []) };
 
-    ghost left = { λ history store. MayLeave history (contents_in V.PairWorld store.pair) };
-
-    ghost starts = { λ number fork journal store made. (λ history may. found_there (contents_in V.PairWorld store.pair) history may,
-        none_other (V.held store.pair.number) store.pair.log.events made.3) };
+    ghost starts = { λ number fork journal store made. none_other (V.held store.pair.number) store.pair.log.events made.3 };
 
     fn open(&mut self, path: &str, naming: Naming, known: &[Found]) -> Result<NewFile, NotOpened> {
         let file = open_claimed(self.runtime, path, naming, known);

@@ -62,10 +62,10 @@ returns-in-Err-clause-kept g c = (keeps-seen g.S.ForkStore, keeps-seen g.J.ForkS
 
 pub returns-in-Ok-clause-starts : goal.returns-in-Ok-clause-starts
 returns-in-Ok-clause-starts g c =
-    let parts : Parts g.row.F.Denot g.row.S.Denot g.row.J.Denot = record { files = g.O.Opens.asking; store = g.S.ForkStore; with_journal = g.J.ForkStore; plain = g.O.Opens.plain; pairs = g.O.Opens.pairs; left = g.O.Opens.left } in
-    starts_where_left parts g.O.Opens.starts
+    let parts : Parts g.row.F.Denot g.row.S.Denot g.row.J.Denot = record { files = g.O.Opens.asking; store = g.S.ForkStore; with_journal = g.J.ForkStore; plain = g.O.Opens.plain; pairs = g.O.Opens.pairs } in
+    starts_where_left parts g.met.O.Opens.starts
 
 pub returns-in-Err-clause-starts : goal.returns-in-Err-clause-starts
 returns-in-Err-clause-starts g c =
-    let parts : Parts g.row.F.Denot g.row.S.Denot g.row.J.Denot = record { files = g.O.Opens.asking; store = g.S.ForkStore; with_journal = g.J.ForkStore; plain = g.O.Opens.plain; pairs = g.O.Opens.pairs; left = g.O.Opens.left } in
-    starts_where_left parts g.O.Opens.starts
+    let parts : Parts g.row.F.Denot g.row.S.Denot g.row.J.Denot = record { files = g.O.Opens.asking; store = g.S.ForkStore; with_journal = g.J.ForkStore; plain = g.O.Opens.plain; pairs = g.O.Opens.pairs } in
+    starts_where_left parts g.met.O.Opens.starts

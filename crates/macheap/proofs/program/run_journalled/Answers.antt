@@ -15,7 +15,7 @@ now_of name = name.now
 
 pub returns-in-Err-clause-ends : goal.returns-in-Err-clause-ends
 returns-in-Err-clause-ends g c =
-    let parts : Parts g.row.F.Denot g.row.S.Denot g.row.J.Denot = record { files = g.O.Opens.asking; store = g.S.ForkStore; with_journal = g.J.ForkStore; plain = g.O.Opens.plain; pairs = g.O.Opens.pairs; left = g.O.Opens.left } in
+    let parts : Parts g.row.F.Denot g.row.S.Denot g.row.J.Denot = record { files = g.O.Opens.asking; store = g.S.ForkStore; with_journal = g.J.ForkStore; plain = g.O.Opens.plain; pairs = g.O.Opens.pairs } in
     let e = c.tell_no_stores.ensures.ends in
     let moments = c.args.moments.now in
     let before = c.args.output.now.passed in
@@ -45,7 +45,7 @@ returns-in-Err-clause-ends g c =
 
 pub returns-clause-ends : goal.returns-clause-ends
 returns-clause-ends g c =
-    let parts : Parts g.row.F.Denot g.row.S.Denot g.row.J.Denot = record { files = g.O.Opens.asking; store = g.S.ForkStore; with_journal = g.J.ForkStore; plain = g.O.Opens.plain; pairs = g.O.Opens.pairs; left = g.O.Opens.left } in
+    let parts : Parts g.row.F.Denot g.row.S.Denot g.row.J.Denot = record { files = g.O.Opens.asking; store = g.S.ForkStore; with_journal = g.J.ForkStore; plain = g.O.Opens.plain; pairs = g.O.Opens.pairs } in
     let opened = c.in-Ok.ensures.stores in
     let notes = c.run_on-status.ensures.ends in
     let did = notes.2 in
