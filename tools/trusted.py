@@ -16,7 +16,8 @@ FUNCTION = re.compile(r"\s*(?:pub(?:\(\w+\))? )?(?:const )?(?:extern \"C\" )?fn 
 CALL = re.compile(
     r"\bfs::[a-z_]+\(|\bFile::(?:open|create|create_new)\b|\bOpenOptions::new|\.metadata\(\)|\.sync_all\(|\.try_lock\(|\.set_len\(|\.read_exact_at\("
     r"|\.write_all_at\(|\.write_all\([^,]*\)|\.read_to_end\(|\.stdin\(|\.stdout\(|\.stderr\(|\.e?print(?:ln)?\(|\benv::[a-z_]+\(|\bfchown\("
-    r"|\.set_permissions\(|\.is_terminal\(|\bio::Write::write|Record::of_events_beside\(|\bRecord::new\(|\b(?:Held|Folder|Host|File)Calls::new\("
+    r"|\.set_permissions\(|\.is_terminal\(|\bio::Write::write"
+    r"|Record::of_events_beside\(|\bRecord::new\(|\b(?:Held|Folder|FolderOpen|Host|File|Stream)Calls::new\("
 )
 # Of resfork and its own crates also those that write to its output.
 OWN = re.compile(r"\.output\(\)")

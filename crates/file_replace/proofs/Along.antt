@@ -1,6 +1,5 @@
 -- How what a crash may leave goes on from call to call.
-use Rattle.std.proofs.Common.{◌≡◌, ◌⊎◌, inl, inr, ℕ, Bool, true, false, not, if◌then◌else◌, List, [], ◌∷◌, ◌++◌, Option, Some, None, Result, Ok, Err, refl, sym, ◌∙◌, ap, subst}
-use Rattle.std.specs.Prelude.{IfErr, is_ok}
+use Rattle.std.proofs.Common.{◌≡◌, ◌⊎◌, inl, inr, ℕ, true, false, List, [], ◌∷◌, ◌++◌, Option, Some, None, Result, Ok, Err, refl, sym, ◌∙◌, ap, subst}
 use Rattle.fork_disk.specs.Crash.{AlwaysFinds, Finds, at_first, and_then}
 use Rattle.file_replace.specs.declared.calls.Call.TheVariants as calls
 use Rattle.file_replace.specs.declared.place.PlainFile.{PlainFile}
@@ -14,9 +13,9 @@ use Rattle.file_replace.specs.declared.replacement.Step.TheVariants.{Create, Wri
 use Rattle.file_replace.specs.declared.replacement.Stopped.{Stopped}
 use Rattle.file_replace.specs.declared.rights.Owner.{Owner}
 use Rattle.file_replace.specs.declared.rights.Rights.{Rights}
-use Rattle.file_replace.specs.Place.{Answered, Folder, History, MayBe, MayLeave, MaySettle, Seen, has_failed}
-use Rattle.file_replace.specs.OnPlace.{Fits, answered, happened, moved, synced}
-use Rattle.file_replace.specs.Replacing.{BelongsTo, Dresses, Fills, Moves, HasAfter, Is, IsNew, IsOldOr, IsReady, Left, Prepares, Puts, ReplacesFile, Spares, after_check, asked_owner, before_step, failed_call, is_beside, is_early, prepared_calls, with_removal}
+use Rattle.file_replace.specs.Place.{Folder, History, MayBe, MayLeave, MaySettle, Seen, has_failed}
+use Rattle.file_replace.specs.OnPlace.{Fits, happened, moved, synced}
+use Rattle.file_replace.specs.Replacing.{BelongsTo, Dresses, Fills, Moves, HasAfter, Is, IsNew, IsOldOr, IsReady, Left, Prepares, Puts, ReplacesFile, Spares, is_early}
 use Rattle.file_replace.specs.Rights.{mode_of}
 
 module _ (P : Left → Type 0) where

@@ -1,15 +1,17 @@
 -- By which calls of the system a path of the host does what it is asked for. The newest call comes first.
 use Rattle.std.specs.Prelude.{◌≡◌, ◌⊎◌, Bool, true, false, List, ℕ, [], ◌∷◌, Option, Some, None, Result, Ok, Err, IsErr, is_ok}
 use Rattle.std.specs.declared.fs.File.{File}
+use Rattle.std.specs.declared.io.ErrorKind.{ErrorKind}
+use Rattle.std.specs.declared.io.ErrorKind.TheVariants.{PermissionDenied}
 use Rattle.host_paths.specs.Asked.{LeadsTo, Log, done_answer, folder_name}
 use Rattle.host_paths.specs.Left.{OnlyBeside}
 use Rattle.host_paths.specs.Made.{MakesBeside, RemovesAt, file_of, path_of}
 use Rattle.host_paths.specs.declared.beside.Beside.{Beside}
 use Rattle.host_paths.specs.declared.host.Answer.{Answer}
 use Rattle.host_paths.specs.declared.host.Answer.TheVariants.{Is, Nothing, Failed}
-use Rattle.host_paths.specs.declared.host.HostCall.TheVariants.{At, Give, Of, Open, Rename, SetMode, Sync, Write}
+use Rattle.host_paths.specs.declared.host.HostCall.TheVariants.{At, Give, Of, Rename, SetMode, Sync, Write}
+use Rattle.host_paths.specs.declared.host.FolderOpen.{FolderOpen}
 use Rattle.host_paths.specs.declared.host.Found.{Found}
-use Rattle.host_paths.specs.declared.host.Access.TheVariants.{Read}
 use Rattle.host_paths.specs.declared.host.Syncing.{Syncing}
 use Rattle.host_paths.specs.declared.host.Syncing.TheVariants as answers
 use Rattle.file_replace.specs.declared.place.FolderSync.{FolderSync}
@@ -79,9 +81,14 @@ abbrev pub RemovesIt : {T E : Type 0} → Option Beside → Result T E → Log �
 RemovesIt None result old new = new ≡ old
 RemovesIt (Some beside) result old new = RemovesAt (path_of beside) result old new
 
--- the folder of a path was to be opened, to be read
-abbrev pub OpensFolder : List ℕ → Option File → Log → Type 0
-OpensFolder path folder new = new ≡ Open Read (folder_name path) folder ∷ []
+-- a folder that is open; or none, since its mode doesn't let it be read
+abbrev pub open_answer : Option File → Result File ErrorKind
+open_answer (Some folder) = Ok folder
+open_answer None = Err PermissionDenied
+
+-- the folder of a path was to be opened, to be synced, and this was answered
+abbrev pub OpensFolder : List ℕ → Option File → List FolderOpen → Type 0
+OpensFolder path folder new = new ≡ record { path = folder_name path; answer = open_answer folder } ∷ []
 
 -- what the system answered where a folder was to be synced
 abbrev pub folder_answer : {E : Type 0} → Result FolderSync E → Option Syncing

@@ -1,15 +1,15 @@
 //! The calls that were made at a path of the host, for clauses alone.
 
 ghost use Rattle.std.specs.Prelude.{◌≡◌, [], ◌∷◌};
-ghost use Rattle.host_paths.specs.declared.host.HostCall.TheVariants as host;
-ghost use Rattle.file_replace.specs.declared.calls.HeldCall.TheVariants.{Asked, OpenFolder, Put, Stream};
+ghost use Rattle.file_replace.specs.declared.calls.HeldCall.TheVariants as held;
+ghost use Rattle.file_replace.specs.declared.calls.HeldCall.TheVariants.{Asked, OpenFolder, Put};
 
 use crate::place::FolderSync;
+use crate::prepared::Stream;
 use crate::rights::Owner;
 use fork_disk::Record;
-use host_paths::{HostCall, HostCalls};
+use host_paths::{HostCall, HostCalls, StreamCalls};
 use std::collections::LinkedList;
-use std::fs::File;
 
 /// A call of the system at a path, or on the file beside it.
 #[derive(Clone, Copy)]
@@ -92,18 +92,17 @@ pub(crate) fn note_asked(log: &mut HeldCalls, asked: &HostCalls)
     *log = Record::of_events_beside(log, asked, &());
 }
 
-/// Notes what was to be written to a stream, by this call of the host.
+/// Notes what was to be written to what is no regular file, by this call of the host.
 pub(crate) fn note_stream(
     log: &mut HeldCalls,
     is_done: bool,
-    _file: &File,
-    bytes: &[u8],
-    _calls: &HostCalls,
+    stream: &Stream<'_>,
+    _calls: &StreamCalls,
 )
-    requires { _calls.now.events ≡ host.Write _file.now bytes.now is_done ∷ [] }
-    ensures { log.new.events ≡ Stream is_done bytes.now ∷ log.old.events }
+    requires { _calls.now.events ≡ record { file = stream.now.file; bytes = stream.now.bytes.now; is_done = is_done } ∷ [] }
+    ensures { log.new.events ≡ held.Stream is_done stream.now.bytes.now ∷ log.old.events }
 {
-    *log = Record::of_events_beside(log, &is_done, &bytes);
+    *log = Record::of_events_beside(log, &is_done, &stream.bytes);
 }
 
 /// Notes a call with its answer.

@@ -1,9 +1,9 @@
 //! A path of the host.
 
-ghost use Rattle.std.specs.Prelude.{◌≡◌, [], ◌∷◌, true, is_ok, is_some, IfErr, IfOk, OnOk};
+ghost use Rattle.std.specs.Prelude.{◌≡◌, [], ◌∷◌, true, None, is_ok, is_some, IfErr, IfOk, MatchResult, OnErr, OnOk};
 ghost use Rattle.std.specs.Path.{path_buf_bytes};
 ghost use Rattle.fork_disk.specs.Disk.{Counts};
-ghost use Rattle.file_replace.specs.Beneath.{Gives, GivesIt, Has, MakesIt, OpensFolder, RemovesIt, RenamesIt, SetsMode, SyncsFolder, SyncsIt, WritesIt};
+ghost use Rattle.file_replace.specs.Beneath.{Gives, GivesIt, Has, MakesIt, RemovesIt, RenamesIt, SetsMode, SyncsFolder, SyncsIt, WritesIt, open_answer};
 ghost use Rattle.file_replace.specs.Calls.{seen_at};
 ghost use Rattle.file_replace.specs.LeftBeside.{IsMadeLeft};
 ghost use Rattle.file_replace.specs.OnHost.{IsSpot, spot_of};
@@ -12,9 +12,7 @@ ghost use Rattle.file_replace.specs.Place.{IsClear};
 ghost use Rattle.file_replace.specs.declared.calls.Call.TheVariants as calls;
 ghost use Rattle.file_replace.specs.Held.{wanted_of};
 ghost use Rattle.file_replace.specs.declared.calls.HeldCall.TheVariants.{OpenFolder, Put};
-ghost use Rattle.host_paths.specs.Asked.{folder_name};
-ghost use Rattle.host_paths.specs.declared.host.Access.TheVariants.{Read};
-ghost use Rattle.host_paths.specs.declared.host.HostCall.TheVariants.{Open};
+ghost use Rattle.host_paths.specs.Asked.{KeepsAsking, folder_name};
 
 use crate::calls::{Call, HeldCalls, Noted, PlaceCalls, Wanted, note, note_at, note_folder};
 use crate::place::{FolderSync, Replaces};
@@ -22,8 +20,8 @@ use crate::rights::Owner;
 use crate::world::FolderWorld;
 use fork_disk::Record;
 use host_paths::{
-    Access, Beside, HostCalls, Syncing, folder_name, found_at, found_of, give, leads_to,
-    longest_file, open, set_mode, sync, sync_file, write_whole,
+    Beside, FolderOpenCalls, HostCalls, Longest, Syncing, folder_name, found_at, found_of, give,
+    leads_to, open_to_sync, set_mode, sync, sync_file, write_whole,
 };
 use std::fs::File;
 use std::io;
@@ -53,7 +51,7 @@ pub struct FileReplacer<'a, W: FolderWorld> {
     /// None where the folder can't be read, so that it can't be synced.
     folder: Option<File>,
     /// The calls by which it was opened.
-    begun: HostCalls,
+    begun: FolderOpenCalls,
     beside: Option<Beside<'a>>,
     failures: u64,
     log: PlaceCalls,
@@ -63,10 +61,14 @@ pub struct FileReplacer<'a, W: FolderWorld> {
 }
 
 /// Opens the folder of a path, to sync it, if its mode lets it be read.
-fn open_folder(rt: &HostRuntime, path: &PathBuf, asked: &mut HostCalls) -> io::Result<Option<File>>
-    ensures { IfOk result (λ folder. asked.new.events ≡ Open Read (folder_name (path_buf_bytes path.now)) folder ∷ asked.old.events) }
+fn open_folder(
+    rt: &HostRuntime,
+    path: &PathBuf,
+    asked: &mut FolderOpenCalls,
+) -> io::Result<Option<File>>
+    ensures { IfOk result (λ folder. asked.new.events ≡ record { path = folder_name (path_buf_bytes path.now); answer = open_answer folder } ∷ asked.old.events) }
 {
-    match open(rt, folder_name(path), Access::Read, asked) {
+    match open_to_sync(rt, folder_name(path), asked) {
         Ok(folder) => Ok(Some(folder)),
         Err(error) if error.kind() == ErrorKind::PermissionDenied => Ok(None),
         Err(error) => Err(error),
@@ -102,7 +104,8 @@ fn wanted_of(there: &There) -> Wanted
 
 /// Whether a path has what it has to have.
 fn has(rt: &HostRuntime, path: &str, there: &There, asked: &mut HostCalls) -> io::Result<bool>
-    ensures { IfOk result (λ is. Has there.now path.now is asked.old.events asked.new.events) }
+    ensures has { IfOk result (λ is. Has there.now path.now is asked.old.events asked.new.events) }
+    ensures asks { KeepsAsking asked.old.events asked.new.events }
 {
     match there {
         There::This(file) => leads_to(rt, path, file, asked),
@@ -123,6 +126,7 @@ impl<'a, W: FolderWorld> FileReplacer<'a, W> {
     ) -> io::Result<FileReplacer<'a, W>>
         ensures start { IfOk result (λ place. place.log.events ≡ []) }
         ensures spot { IfOk result (λ place. IsSpot (path_buf_bytes path.now) there (spot_of place)) }
+        ensures none { IfOk result (λ place. place.beside ≡ None) }
         ensures opens { log.new.events ≡ OpenFolder (wanted_of there) (is_ok result) ∷ log.old.events }
     {
         let wanted = wanted_of(&there);
@@ -135,8 +139,9 @@ impl<'a, W: FolderWorld> FileReplacer<'a, W> {
     fn opened(rt: &'a HostRuntime, path: &PathBuf, there: There) -> io::Result<FileReplacer<'a, W>>
         ensures start { IfOk result (λ place. place.log.events ≡ []) }
         ensures spot { IfOk result (λ place. IsSpot (path_buf_bytes path.now) there (spot_of place)) }
+        ensures none { IfOk result (λ place. place.beside ≡ None) }
     {
-        let mut begun = HostCalls::new();
+        let mut begun = FolderOpenCalls::new();
         let folder = open_folder(rt, path, &mut begun)?;
         Ok(FileReplacer {
             rt,
@@ -234,6 +239,7 @@ impl<'a, W: FolderWorld> Replaces for FileReplacer<'a, W> {
         ensures cause { Counts self.old.failures self.new.failures result }
         ensures stays { spot_of self.new ≡ spot_of self.old }
         ensures made { MakesIt (path_buf_bytes self.old.path) is_private self.new.beside result self.old.asked.events self.new.asked.events }
+        ensures same { OnErr result (self.new.beside ≡ self.old.beside) }
     {
         let answer = match Beside::make(self.rt, &self.path, is_private, &mut self.asked) {
             Ok(beside) => {
@@ -250,8 +256,9 @@ impl<'a, W: FolderWorld> Replaces for FileReplacer<'a, W> {
         ensures cause { Counts self.old.failures self.new.failures result }
         ensures stays { spot_of self.new ≡ spot_of self.old }
         ensures written { WritesIt self.old.beside bytes.now result self.old.asked.events self.new.asked.events }
+        ensures same { self.new.beside ≡ self.old.beside }
     {
-        let longest = longest_file(self.rt);
+        let longest = Longest::of_process(self.rt);
         let answer = match &self.beside {
             Some(beside) => write_whole(beside.file(), bytes, longest, &mut self.asked),
             None => Err(ErrorKind::NotFound.into()),
@@ -264,6 +271,7 @@ impl<'a, W: FolderWorld> Replaces for FileReplacer<'a, W> {
         ensures cause { Counts self.old.failures self.new.failures result }
         ensures stays { spot_of self.new ≡ spot_of self.old }
         ensures given { GivesIt self.old.beside owner result self.old.asked.events self.new.asked.events }
+        ensures same { self.new.beside ≡ self.old.beside }
     {
         let answer = match &self.beside {
             Some(beside) => give_to(beside.file(), owner, &mut self.asked),
@@ -281,6 +289,7 @@ impl<'a, W: FolderWorld> Replaces for FileReplacer<'a, W> {
         ensures cause { Counts self.old.failures self.new.failures result }
         ensures stays { spot_of self.new ≡ spot_of self.old }
         ensures set { SetsMode self.old.beside mode result self.old.asked.events self.new.asked.events }
+        ensures same { self.new.beside ≡ self.old.beside }
     {
         let answer = match &self.beside {
             Some(beside) => set_mode(beside.file(), mode, &mut self.asked),
@@ -294,6 +303,7 @@ impl<'a, W: FolderWorld> Replaces for FileReplacer<'a, W> {
         ensures cause { Counts self.old.failures self.new.failures result }
         ensures stays { spot_of self.new ≡ spot_of self.old }
         ensures synced { SyncsIt self.old.beside result self.old.asked.events self.new.asked.events }
+        ensures same { self.new.beside ≡ self.old.beside }
     {
         let answer = match &self.beside {
             Some(beside) => sync_file(beside.file(), &mut self.asked),
@@ -307,6 +317,8 @@ impl<'a, W: FolderWorld> Replaces for FileReplacer<'a, W> {
         ensures cause { Counts self.old.failures self.new.failures result }
         ensures stays { spot_of self.new ≡ spot_of self.old }
         ensures asked { OnOk result (Has self.old.there (path_buf_bytes self.old.path) true self.old.asked.events self.new.asked.events) }
+        ensures asks { KeepsAsking self.old.asked.events self.new.asked.events }
+        ensures same { self.new.beside ≡ self.old.beside }
     {
         let answer = match has(self.rt, self.path.as_str(), &self.there, &mut self.asked) {
             Ok(true) => Ok(()),
@@ -321,6 +333,7 @@ impl<'a, W: FolderWorld> Replaces for FileReplacer<'a, W> {
         ensures cause { Counts self.old.failures self.new.failures result }
         ensures stays { spot_of self.new ≡ spot_of self.old }
         ensures renamed { RenamesIt self.old.beside (path_buf_bytes self.old.path) result self.old.asked.events self.new.asked.events }
+        ensures kept { MatchResult result (λ _. self.new.beside ≡ None) (λ _. self.new.beside ≡ self.old.beside) }
     {
         let answer = match &self.beside {
             Some(beside) => beside.rename(&self.path, &mut self.asked),
@@ -337,6 +350,7 @@ impl<'a, W: FolderWorld> Replaces for FileReplacer<'a, W> {
         ensures cause { Counts self.old.failures self.new.failures result }
         ensures stays { spot_of self.new ≡ spot_of self.old }
         ensures folder { SyncsFolder self.old.folder result self.old.asked.events self.new.asked.events }
+        ensures same { self.new.beside ≡ self.old.beside }
     {
         let answer = sync_offered(&self.folder, &mut self.asked);
         let told = match &answer {
@@ -352,6 +366,7 @@ impl<'a, W: FolderWorld> Replaces for FileReplacer<'a, W> {
         ensures cause { Counts self.old.failures self.new.failures result }
         ensures stays { spot_of self.new ≡ spot_of self.old }
         ensures removed { RemovesIt self.old.beside result self.old.asked.events self.new.asked.events }
+        ensures kept { MatchResult result (λ _. self.new.beside ≡ None) (λ _. self.new.beside ≡ self.old.beside) }
     {
         let answer = match &self.beside {
             Some(beside) => beside.remove(&mut self.asked),

@@ -18,7 +18,7 @@ use crate::rights::{Owner, Rights};
 use crate::stop::Stop;
 use crate::told::{NotReplaced, put_left};
 use crate::world::FolderWorld;
-use host_paths::{HostCalls, write_whole};
+use host_paths::{StreamCalls, write_stream};
 use std::fmt::{Display, Formatter};
 use std::fs::File;
 use std::path::PathBuf;
@@ -229,10 +229,9 @@ impl<'a> Stream<'a> {
     fn put(self, log: &mut HeldCalls) -> io::Result<()>
         ensures { log.new.events ≡ HeldCall.Stream (is_ok result) self.entry.bytes.now ∷ log.old.events }
     {
-        let Stream { file, bytes } = self;
-        let mut calls = HostCalls::new();
-        let done = write_whole(&file, bytes, u64::MAX, &mut calls);
-        note_stream(log, done.is_ok(), &file, bytes, &calls);
+        let mut calls = StreamCalls::new();
+        let done = write_stream(&self.file, self.bytes, &mut calls);
+        note_stream(log, done.is_ok(), &self, &calls);
         done
     }
 }

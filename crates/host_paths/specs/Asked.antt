@@ -1,8 +1,11 @@
 -- Calls of the system at paths and on open files, and what follows from their answers.
 use Rattle.std.specs.Prelude.{◌≡◌, ⊤, ◌⊎◌, ℕ, ◌==◌, ◌&&◌, Bool, true, false, if◌then◌else◌, bytes_eq, codes, List, [], ◌∷◌, Option, Some, None, Result, Ok, Err, unwrap_or}
 use Rattle.std.specs.Global.{Global}
+use Rattle.std.specs.IoError.{error_kind}
 use Rattle.std.specs.Path.{path_buf_bytes, path_parent}
 use Rattle.std.specs.declared.fs.File.{File}
+use Rattle.std.specs.declared.io.Error.{Error}
+use Rattle.std.specs.declared.io.ErrorKind.{ErrorKind}
 use Rattle.std.specs.declared.path.buf.PathBuf.{PathBuf}
 use Rattle.host_paths.specs.declared.host.Answer.{Answer}
 use Rattle.host_paths.specs.declared.host.Answer.TheVariants.{Is, Nothing, Failed}
@@ -34,6 +37,11 @@ said_of (Err error) = Failed
 abbrev pub opened : {E : Type 0} → Result File E → Option File
 opened (Ok file) = Some file
 opened (Err error) = None
+
+-- the folder that was opened, or of which kind the error was
+abbrev pub folder_or_kind : Result File Error → Result File ErrorKind
+folder_or_kind (Ok folder) = Ok folder
+folder_or_kind (Err error) = Err (error_kind error)
 
 -- the path that a link names, if that was read
 abbrev pub named_path : {E : Type 0} → Result (PathBuf Global) E → Option (List ℕ)

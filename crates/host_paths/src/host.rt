@@ -1,11 +1,12 @@
 //! Calls of the system at paths and on open files, each noted with its answer in a record that only clauses read. What
 //! is said of them rests on this: each function here that notes a call makes that one and no other.
 
-ghost use Rattle.std.specs.Prelude.{◌≡◌, ◌∷◌, is_ok};
-ghost use Rattle.host_paths.specs.Asked.{answer_of, asked_user, done_answer, is_folder, is_regular, lock_answer, named_path, opened, said_of, same_file, sync_answer};
+ghost use Rattle.std.specs.Prelude.{◌≡◌, ◌≤◌, ◌∷◌, OnOk, is_ok, length};
+ghost use Rattle.host_paths.specs.Asked.{answer_of, asked_user, done_answer, folder_or_kind, is_folder, is_regular, lock_answer, named_path, opened, said_of, same_file, sync_answer};
 ghost use Rattle.host_paths.specs.Following.{is_link};
 ghost use Rattle.host_paths.specs.declared.host.HostCall.TheVariants.{At, Give, Lock, Make, Of, Open, OpenOrMake, Over, ReadLink, Remove, Rename, SetMode, Sync, User, Write};
 
+use crate::limits::Longest;
 use fork_disk::Record;
 use std::collections::LinkedList;
 use std::fs::{File, Metadata, OpenOptions, Permissions, TryLockError};
@@ -119,6 +120,28 @@ pub enum HostCall {
 
 /// The calls, the newest first.
 pub type HostCalls = Record<HostCall>;
+
+/// These bytes were to be written to this file, which isn't a regular one, and whether they were.
+#[derive(Drop)]
+pub struct StreamWrite {
+    pub file: File,
+    pub bytes: LinkedList<u8>,
+    pub is_done: bool,
+}
+
+/// The writes to what is no regular file, the newest first.
+pub type StreamCalls = Record<StreamWrite>;
+
+/// A folder was to be opened by this path, to be synced.
+#[derive(Drop)]
+pub struct FolderOpen {
+    pub path: LinkedList<u8>,
+    /// It is open, or why it isn't.
+    pub answer: Result<File, ErrorKind>,
+}
+
+/// How folders were opened, the newest first.
+pub type FolderOpenCalls = Record<FolderOpen>;
 
 /// What a file is, by what the system says.
 fn kind_of(metadata: &Metadata) -> FileKind {
@@ -257,6 +280,15 @@ pub fn open(rt: &HostRuntime, path: &str, access: Access, log: &mut HostCalls) -
     file
 }
 
+/// Opens a folder, to sync it.
+pub fn open_to_sync(rt: &HostRuntime, path: &str, log: &mut FolderOpenCalls) -> io::Result<File>
+    ensures { log.new.events ≡ record { path = path.now; answer = folder_or_kind result } ∷ log.old.events }
+{
+    let folder = File::open(rt, path);
+    *log = Record::of_events_beside(log, &path, &folder);
+    folder
+}
+
 /// Opens what a path leads to, to read and to write it. A missing file is made, empty. Nothing is emptied.
 pub fn open_or_make(rt: &HostRuntime, path: &str, log: &mut HostCalls) -> io::Result<File>
     ensures { log.new.events ≡ OpenOrMake path.now (opened result) ∷ log.old.events }
@@ -344,16 +376,33 @@ pub(crate) fn remove(rt: &HostRuntime, path: &str, log: &mut HostCalls) -> io::R
     done
 }
 
-/// Writes all these bytes to an open file, where one may be so long.
-pub fn write_whole(file: &File, bytes: &[u8], longest: u64, log: &mut HostCalls) -> io::Result<()>
-    ensures { log.new.events ≡ Write file.now bytes.now (is_ok result) ∷ log.old.events }
+/// Writes all these bytes to an open file that has none, where one may be so long: a write past that would end the
+/// process.
+pub fn write_whole(
+    file: &File,
+    bytes: &[u8],
+    longest: Longest,
+    log: &mut HostCalls,
+) -> io::Result<()>
+    ensures noted { log.new.events ≡ Write file.now bytes.now (is_ok result) ∷ log.old.events }
+    ensures fits { OnOk result (length bytes.now ≤ longest.bytes) }
 {
     let mut writer = file;
-    let done: io::Result<()> = if bytes.len() as u64 > longest {
+    let done: io::Result<()> = if bytes.len() as u64 > longest.bytes {
         Err(ErrorKind::FileTooLarge.into())
     } else {
         writer.write_all(bytes)
     };
+    *log = Record::of_events_beside(log, &(file, bytes), &done);
+    done
+}
+
+/// Writes all these bytes to what is no regular file, which may be of any length.
+pub fn write_stream(file: &File, bytes: &[u8], log: &mut StreamCalls) -> io::Result<()>
+    ensures { log.new.events ≡ record { file = file.now; bytes = bytes.now; is_done = is_ok result } ∷ log.old.events }
+{
+    let mut writer = file;
+    let done = writer.write_all(bytes);
     *log = Record::of_events_beside(log, &(file, bytes), &done);
     done
 }

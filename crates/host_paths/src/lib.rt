@@ -10,9 +10,10 @@ mod made_path;
 
 pub use beside::Beside;
 pub use host::{
-    Access, Answer, FileKind, Found, HostCall, HostCalls, Locking, Syncing, found_at, found_of,
-    found_over, give, lock, open, open_or_make, set_mode, sync, sync_file, this_user, write_whole,
+    Access, Answer, FileKind, FolderOpen, FolderOpenCalls, Found, HostCall, HostCalls, Locking,
+    StreamCalls, StreamWrite, Syncing, found_at, found_of, found_over, give, lock, open,
+    open_or_make, open_to_sync, set_mode, sync, sync_file, this_user, write_stream, write_whole,
 };
 pub use identity::Identity;
-pub use limits::longest_file;
+pub use limits::{Longest, longest_file};
 pub use links::{folder_name, follow, followed, leads_to};

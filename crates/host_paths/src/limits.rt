@@ -2,6 +2,22 @@
 
 use std::fs;
 
+/// How many bytes long a regular file may be that this process writes. There is none but what the system says of this
+/// process.
+#[derive(Clone, Copy)]
+pub struct Longest {
+    pub(crate) bytes: u64,
+}
+
+impl Longest {
+    /// What the system says now.
+    pub fn of_process(rt: &HostRuntime) -> Longest {
+        Longest {
+            bytes: longest_file(rt),
+        }
+    }
+}
+
 /// The limit that a line of the kernel's list gives, where it is that of a file's length. No number means no
 /// limit.
 fn limit_in(line: &str) -> Option<u64> {

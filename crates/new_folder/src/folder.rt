@@ -7,7 +7,7 @@ ghost use Rattle.new_folder.specs.NewFolder.{Makes, is_single, path_below, with_
 
 use crate::calls::{FolderCall, FolderCalls, FolderNoted, note};
 use crate::opened::{NoNewFolder, Opened, check, made_or_there};
-use host_paths::{HostCalls, longest_file, this_user};
+use host_paths::{HostCalls, Longest, this_user};
 use std::io;
 
 /// A folder that is written to. It is open: what is made in it is there, whatever its path leads to meanwhile. Each call
@@ -38,7 +38,7 @@ impl<'a> NewFolder<'a> {
         let opened = Opened {
             rt,
             folder,
-            longest: longest_file(rt),
+            longest: Longest::of_process(rt),
             asked,
         };
         Ok(NewFolder { opened, owner })

@@ -8,7 +8,7 @@ ghost use Rattle.new_folder.specs.NewFolder.{Makes, event, is_single, path_below
 use crate::calls::{FolderCall, FolderCalls, FolderNoted, note, note_path, note_written};
 use crate::names::check_single;
 use fork_disk::Record;
-use host_paths::{Access, Found, HostCalls, found_at, found_of, open, write_whole};
+use host_paths::{Access, Found, HostCalls, Longest, found_at, found_of, open, write_whole};
 use std::alloc::AllocError;
 use std::fs::File;
 use std::io::{Error, ErrorKind};
@@ -171,7 +171,7 @@ pub(crate) fn check(
 }
 
 /// Writes these bytes to a file that was made, and notes whether it did.
-fn write_made(file: &File, bytes: &[u8], longest: u64, log: &mut FolderCalls) -> io::Result<()>
+fn write_made(file: &File, bytes: &[u8], longest: Longest, log: &mut FolderCalls) -> io::Result<()>
     ensures { log.new.events ≡ event FolderCall.Write (is_ok result) bytes.now ∷ log.old.events }
 {
     let mut calls = HostCalls::new();
@@ -186,7 +186,7 @@ pub(crate) struct Opened<'a> {
     pub(crate) rt: &'a HostRuntime,
     pub(crate) folder: File,
     /// How long a file may be that this process writes.
-    pub(crate) longest: u64,
+    pub(crate) longest: Longest,
     /// The calls by which it was opened.
     pub(crate) asked: HostCalls,
 }

@@ -1,5 +1,4 @@
 use Rattle.std.proofs.Common.{◌≡◌, List, ◌∷◌, Err, Result, ◌∙◌, ap}
-use Rattle.std.specs.Path.{path_buf_bytes}
 use Rattle.std.specs.declared.io.Error.{Error}
 use Rattle.file_replace.specs.declared.calls.HeldCall.{HeldCall}
 use Rattle.file_replace.specs.declared.calls.HeldCall.TheVariants.{Put}

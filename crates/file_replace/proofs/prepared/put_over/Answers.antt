@@ -1,4 +1,4 @@
-use Rattle.std.proofs.Common.{◌≡◌, ℕ, List, inr, [], ◌∷◌, Some, Ok, Err, sym, ◌∙◌, ap, subst}
+use Rattle.std.proofs.Common.{ℕ, List, inr, [], ◌∷◌, Some, Ok, Err, sym, ◌∙◌, ap, subst}
 use Rattle.std.specs.Path.{path_buf_bytes}
 use Rattle.std.specs.declared.io.Error.{Error}
 use Rattle.file_replace.specs.declared.calls.HeldCall.{HeldCall}

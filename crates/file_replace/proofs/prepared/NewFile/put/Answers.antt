@@ -1,4 +1,4 @@
-use Rattle.std.proofs.Common.{◌≡◌, ℕ, List, ◌∷◌, Err, sym, ◌∙◌, ap, subst}
+use Rattle.std.proofs.Common.{◌∷◌, Err, sym, ◌∙◌, ap, subst}
 use Rattle.std.specs.declared.io.Error.{Error}
 use Rattle.file_replace.specs.declared.calls.HeldCall.TheVariants.{Put}
 use Rattle.file_replace.specs.declared.replacement.Fault.{Fault}
