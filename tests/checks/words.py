@@ -4,8 +4,11 @@ Each row below is one run of the program, on a script of one ZoneMap, in a folde
 are no fork, and an empty folder `folder`. Where a row has a `@`, the program is given that folder. What files it has after the run is compared, too.
 """
 import os
+import re
 import subprocess
 import tempfile
+
+from places import TOP
 
 SCRIPT = b"ZoneMap\n"
 OLD = b"old"
@@ -34,6 +37,9 @@ ZONES = [
 ]
 
 HELP = ["--help", "-h", "--fork @/new --help"]
+
+# words that ask for the version
+VERSIONS = ["--version", "-V", "--fork @/new --version"]
 
 # words that don't match the options
 NO_WORDS = [
@@ -223,6 +229,9 @@ def main(program):
         check(words, f"is to run on {size} bytes at {base}", 0, map_of(base, size, master).__eq__, "".__eq__)
     for words in HELP:
         check(words, "is to print help", 0, lambda it: all(option in it for option in OPTIONS), "".__eq__)
+    version = re.search('const VERSION: &str = "(.*)"', open(f"{TOP}/crates/macheap/src/asked.rt", encoding="utf-8").read())[1]
+    for words in VERSIONS:
+        check(words, "is to print the version alone", 0, f"macheap {version}\n".__eq__, "".__eq__)
     for words in NO_WORDS:
         check(words, "is to be refused for its words", 2, "".__eq__, is_of_other_words)
     for words in NO_TEXT:

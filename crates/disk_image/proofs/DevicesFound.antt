@@ -1,8 +1,7 @@
 -- Where the bytes of a disk are, in a file of which all is seen.
-use Rattle.std.proofs.Common.{◌≡◌, ℕ, ◌+◌, ◌-◌, ◌^◌, ◌<◌, ◌≤◌, min, List, [], ◌∷◌, length, Ok, Result, refl, sym, ap, ◌∙◌, arith}
+use Rattle.std.proofs.Common.{◌≡◌, ℕ, ◌-◌, ◌^◌, ◌<◌, min, List, [], ◌∷◌, length, Ok, refl, ap, ◌∙◌, arith}
 use Rattle.disk_ranges.specs.declared.read.Range.{Range}
 use Rattle.disk_ranges.specs.Ranges.{bytes_of, total, AreWithin}
-use Rattle.disk_image.specs.declared.fault.ImageFault.{ImageFault}
 use Rattle.disk_image.specs.declared.known.Known.{Known}
 use Rattle.disk_image.specs.declared.known.Known.TheVariants.{RawCd, DiskCopy}
 use Rattle.disk_image.specs.declared.view.View.{View}

@@ -1,5 +1,5 @@
 -- What is known by the copy of a volume's block, and by an old map, where the bytes are long enough.
-use Rattle.std.proofs.Common.{◌≡◌, ℕ, ◌-◌, ◌*◌, ◌/◌, ◌<◌, ◌≤◌, List, [], length, Option, None, refl, sym, ap, ◌∙◌}
+use Rattle.std.proofs.Common.{◌≡◌, ℕ, ◌-◌, ◌*◌, ◌/◌, ◌<◌, ◌≤◌, List, [], length, Option, None, refl}
 use Rattle.std.proofs.lemmas.Bool.{le-leb, lt-leb}
 use Rattle.fork_disk.specs.Disk.{bytes_at}
 use Rattle.disk_image.specs.declared.known.Format.{Format}

@@ -1,5 +1,5 @@
 -- What a map is, by what was read of it in turn.
-use Rattle.std.proofs.Common.{◌≡◌, ℕ, ◌+◌, ◌*◌, ◌≤◌, true, false, List, length, Err, refl, ◌∙◌}
+use Rattle.std.proofs.Common.{◌≡◌, ℕ, ◌+◌, ◌*◌, ◌≤◌, true, false, List, length, Err, refl}
 use Rattle.std.specs.Prelude.{nat_le, ◌&&◌}
 use Rattle.std.proofs.lemmas.Bool.{and_parts, leb-true}
 use Rattle.disk_image.specs.declared.fault.ImageFault.TheVariants.{Entries, Mark}

@@ -1,5 +1,5 @@
 -- What a file is, by what was read of it in turn.
-use Rattle.std.proofs.Common.{◌≡◌, ℕ, List, Result, Ok, Err, refl, ◌∙◌}
+use Rattle.std.proofs.Common.{◌≡◌, ℕ, List, Result, Ok, Err, refl}
 use Rattle.disk_ranges.specs.declared.read.Range.{Range}
 use Rattle.disk_ranges.specs.Ranges.{bytes_of}
 use Rattle.disk_image.specs.declared.fault.ImageFault.{ImageFault}

@@ -1,7 +1,7 @@
 -- The partitions that were read so far, with those that are left, are those of the map.
-use Rattle.std.proofs.Common.{◌≡◌, ℕ, zero, suc, ◌+◌, ◌*◌, ◌==◌, true, false, List, [], ◌∷◌, ◌++◌, Result, Ok, Err, refl, sym, ap, ◌∙◌}
+use Rattle.std.proofs.Common.{◌≡◌, ℕ, suc, ◌+◌, ◌*◌, ◌==◌, true, false, List, [], ◌∷◌, ◌++◌, Result, Ok, Err, refl, sym, ap}
 use Rattle.std.proofs.lemmas.List.{append_assoc, append-nil}
-use Rattle.std.proofs.lemmas.Bool.{eq-eqb, ne_eqb}
+use Rattle.std.proofs.lemmas.Bool.{eq-eqb}
 use Rattle.std.specs.List.{slice_range}
 use Rattle.byteorder.specs.Endian.{big_from}
 use Rattle.fork_disk.specs.Disk.{bytes_at}
@@ -9,7 +9,7 @@ use Rattle.disk_image.specs.declared.fault.ImageFault.{ImageFault}
 use Rattle.disk_image.specs.declared.fault.ImageFault.TheVariants.{Mark}
 use Rattle.disk_image.specs.declared.map.Grid.{Grid}
 use Rattle.disk_image.specs.declared.part.Part.{Part}
-use Rattle.disk_image.specs.Maps.{part_in, parts_before, with_entry, parts_from, old_part, is_blank, old_parts_from}
+use Rattle.disk_image.specs.Maps.{part_in, parts_before, parts_from, old_part, is_blank, old_parts_from}
 
 -- what was read is all
 abbrev pub read_all : List Part → Result (List Part) ImageFault
@@ -40,11 +40,6 @@ module _ (disk : List ℕ) (grid : Grid) where
   pub no_part : (parts : List Part) (number left : ℕ) → left ≡ 0 → parts_before parts (parts_from disk grid number left) ≡ Ok parts
   unfolding parts_from
   no_part parts number left none = rw none (ap read_all (append-nil parts))
-
--- before the first there are none
-pub none_before : (rest : Result (List Part) ImageFault) → rest ≡ parts_before [] rest
-none_before (Ok others) = refl
-none_before (Err fault) = refl
 
 -- The same of the old map.
 pub old_more : (parts : List Part) (block entry : List ℕ) (index left more : ℕ) (part : Part) → left ≡ suc more → entry ≡ slice_range block (2 + 12 * index) (14 + 12 * index) → is_blank entry ≡ false

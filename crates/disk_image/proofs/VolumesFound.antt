@@ -1,5 +1,5 @@
 -- What is found in a partition.
-use Rattle.std.proofs.Common.{◌≡◌, ℕ, ◌<◌, ◌≤◌, List, length, Option, Err, refl, ◌∙◌}
+use Rattle.std.proofs.Common.{◌≡◌, ℕ, ◌<◌, ◌≤◌, List, length, Option, Err, refl}
 use Rattle.std.proofs.lemmas.Bool.{le-leb, lt-leb}
 use Rattle.disk_image.specs.declared.fault.ImageFault.TheVariants.{Start}
 use Rattle.disk_image.specs.declared.known.Format.{Format}

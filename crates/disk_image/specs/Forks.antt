@@ -1,5 +1,5 @@
 -- A fork of a file in a volume that is a part of a disk.
-use Rattle.std.specs.Prelude.{◌≡◌, ℕ, List, length, None}
+use Rattle.std.specs.Prelude.{◌≡◌, ℕ, List, None}
 use Rattle.disk_ranges.specs.Ranges.{RangesOn, bytes_of}
 use Rattle.fork_disk.specs.declared.disk.ForkDisk.{Ghosts}
 use Rattle.hfs_volume.specs.declared.entry.Entry.{Entry}

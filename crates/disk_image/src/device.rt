@@ -77,7 +77,8 @@ fn sector_device<D: ForkDisk>(
 ) -> Result<Result<View, ImageFault>, ReadFault>
     requires sound { IsView view.now }
     requires size { HasBytes D.ForkDisk disk.old (λ file. view.now.file ≡ length file) }
-    ensures reads { D.is_honest disk.new → Learns D.ForkDisk disk.old disk.new (λ file. IfOk result (λ found. MatchResult found
+    ensures reads { D.is_honest disk.new → Learns D.ForkDisk disk.old disk.new
+        (λ file. IfOk result (λ found. MatchResult found
         (λ device. sectors_of view.now.file (number_at 1 15 (bytes_in view.now file)) ≡ Ok device.ranges.items)
         (λ fault. sectors_of view.now.file (number_at 1 15 (bytes_in view.now file)) ≡ Err fault))) }
     ensures sound { IfOk result (λ found. IfOk found IsView) }
@@ -102,7 +103,8 @@ pub(crate) fn find_device<D: ForkDisk>(
     requires sound { IsView view.now }
     requires size { HasBytes D.ForkDisk disk.old (λ file. view.now.file ≡ length file) }
     requires whole { view.now.ranges.items ≡ whole_of view.now.file }
-    ensures reads { D.is_honest disk.new → Learns D.ForkDisk disk.old disk.new (λ file. IfOk result (λ found. MatchResult found
+    ensures reads { D.is_honest disk.new → Learns D.ForkDisk disk.old disk.new
+        (λ file. IfOk result (λ found. MatchResult found
         (λ device. device_of file known ≡ Ok device.ranges.items)
         (λ fault. device_of file known ≡ Err fault))) }
     ensures sound { IfOk result (λ found. IfOk found IsView) }

@@ -9,16 +9,16 @@ use fork_disk::disk::DiskFault;
 use hfs_tree::fault::ReadFault;
 use std::alloc::{AllocError, AllocFailed};
 
-/// The first condition that doesn't hold of an image, or of one of its partitions. Places are in the disk that the image
-/// has.
+/// The first condition that doesn't hold of an image, or of one of its partitions. Places are in the disk that the
+/// image has.
 #[derive(Clone, Copy, Debug, PartialEq, Eq)]
 pub enum ImageFault {
     /// It is known as something that has no volume that can be read.
     Refused(Known),
     /// The first sector of a raw CD, at 15 in the file, has a mode without bytes of a disk: this.
     Sector(u64),
-    /// The partition map has so many entries, by the number at a place: none, more than 1,024, or more than there is room
-    /// for.
+    /// The partition map has so many entries, by the number at a place: none, more than 1,024, or more than there is
+    /// room for.
     Entries(u64, u64),
     /// An entry of the partition map, of this number, doesn't begin with `PM`, at a place.
     Mark(u64, u64),

@@ -43,7 +43,15 @@ impl Image {
         ensures value { IfSome result (λ found. IsVolumeAt index self.contents.volumes.items found) }
         ensures none { IfNone result (length self.contents.volumes.items ≤ index) }
     {
-        let mut volumes = self.contents.volumes;
+        let Image {
+            size: _,
+            known: _,
+            contents,
+        } = self;
+        let Contents {
+            parts: _,
+            mut volumes,
+        } = contents;
         if index >= volumes.len() {
             return None;
         }
@@ -62,10 +70,12 @@ fn read_volumes<D: ForkDisk>(
 ) -> Result<Result<Contents, ImageFault>, ReadFault>
     requires sound { IsView view.now }
     requires size { HasBytes D.ForkDisk disk.old (λ file. view.now.file ≡ length file) }
-    ensures reads { D.is_honest disk.new → Learns D.ForkDisk disk.old disk.new (λ file. IfOk result (λ found. MatchResult found
+    ensures reads { D.is_honest disk.new → Learns D.ForkDisk disk.old disk.new
+        (λ file. IfOk result (λ found. MatchResult found
         (λ contents. partitions_of (bytes_in view.now file) parts.items ≡ Ok (contents_in file contents))
         (λ fault. partitions_of (bytes_in view.now file) parts.items ≡ Err fault))) }
-    ensures there { IfOk result (λ found. IfOk found (λ contents. AllByRecursion (IsPlaced view.now.file) contents.volumes.items)) }
+    ensures there { IfOk result
+        (λ found. IfOk found (λ contents. AllByRecursion (IsPlaced view.now.file) contents.volumes.items)) }
     ensures cause { CountsReads (D.failures disk.old) (D.failures disk.new) result }
 {
     let chosen = volume_parts(alloc, &parts)?;
@@ -79,7 +89,8 @@ fn read_volumes<D: ForkDisk>(
 /// What a disk has that is a volume.
 fn whole_volume(alloc: Global, view: View, format: Format) -> Result<Contents, AllocError>
     requires { IsView view }
-    ensures contents { IfOk result (λ contents. (file : List ℕ) → contents_in file contents ≡ whole_volume (bytes_in view file) format) }
+    ensures contents { IfOk result
+        (λ contents. (file : List ℕ) → contents_in file contents ≡ whole_volume (bytes_in view file) format) }
     ensures there { IfOk result (λ contents. AllByRecursion (IsPlaced view.file) contents.volumes.items) }
 {
     let placed = Placed {
@@ -105,7 +116,8 @@ fn volume_or_fault(
     ensures contents { IfOk result (λ found. (file : List ℕ) → MatchResult found
         (λ contents. of_format (bytes_in view file) format ≡ Ok (contents_in file contents))
         (λ fault. of_format (bytes_in view file) format ≡ Err fault)) }
-    ensures there { IfOk result (λ found. IfOk found (λ contents. AllByRecursion (IsPlaced view.file) contents.volumes.items)) }
+    ensures there { IfOk result
+        (λ found. IfOk found (λ contents. AllByRecursion (IsPlaced view.file) contents.volumes.items)) }
 {
     match format {
         Format::Hfs | Format::Mfs => Ok(Ok(whole_volume(alloc, view, format)?)),
@@ -121,10 +133,12 @@ fn read_mapped<D: ForkDisk>(
 ) -> Result<Result<Contents, ImageFault>, ReadFault>
     requires sound { IsView view }
     requires size { HasBytes D.ForkDisk disk.old (λ file. view.file ≡ length file) }
-    ensures reads { D.is_honest disk.new → Learns D.ForkDisk disk.old disk.new (λ file. IfOk result (λ found. MatchResult found
+    ensures reads { D.is_honest disk.new → Learns D.ForkDisk disk.old disk.new
+        (λ file. IfOk result (λ found. MatchResult found
         (λ contents. by_map (bytes_in view file) (map_of (bytes_in view file)) ≡ Ok (contents_in file contents))
         (λ fault. by_map (bytes_in view file) (map_of (bytes_in view file)) ≡ Err fault))) }
-    ensures there { IfOk result (λ found. IfOk found (λ contents. AllByRecursion (IsPlaced view.file) contents.volumes.items)) }
+    ensures there { IfOk result
+        (λ found. IfOk found (λ contents. AllByRecursion (IsPlaced view.file) contents.volumes.items)) }
     ensures cause { CountsReads (D.failures disk.old) (D.failures disk.new) result }
 {
     let fault = match read_partitions(alloc, disk, &view)? {
@@ -146,10 +160,12 @@ fn read_contents<D: ForkDisk>(
 ) -> Result<Result<Contents, ImageFault>, ReadFault>
     requires sound { IsView view }
     requires size { HasBytes D.ForkDisk disk.old (λ file. view.file ≡ length file) }
-    ensures reads { D.is_honest disk.new → Learns D.ForkDisk disk.old disk.new (λ file. IfOk result (λ found. MatchResult found
+    ensures reads { D.is_honest disk.new → Learns D.ForkDisk disk.old disk.new
+        (λ file. IfOk result (λ found. MatchResult found
         (λ contents. contents_of (bytes_in view file) known ≡ Ok (contents_in file contents))
         (λ fault. contents_of (bytes_in view file) known ≡ Err fault))) }
-    ensures there { IfOk result (λ found. IfOk found (λ contents. AllByRecursion (IsPlaced view.file) contents.volumes.items)) }
+    ensures there { IfOk result
+        (λ found. IfOk found (λ contents. AllByRecursion (IsPlaced view.file) contents.volumes.items)) }
     ensures cause { CountsReads (D.failures disk.old) (D.failures disk.new) result }
 {
     match known {
@@ -178,7 +194,8 @@ fn read_file<D: ForkDisk>(
     requires { HasBytes D.ForkDisk disk.old (λ file. size ≡ length file) }
     ensures reads { D.is_honest disk.new → Learns D.ForkDisk disk.old disk.new
         (λ file. IfOk result (λ found. MatchResult found (IsImage file) (λ fault. image_in file ≡ Err fault))) }
-    ensures there { IfOk result (λ found. IfOk found (λ image. AllByRecursion (IsPlaced image.size) image.contents.volumes.items)) }
+    ensures there { IfOk result
+        (λ found. IfOk found (λ image. AllByRecursion (IsPlaced image.size) image.contents.volumes.items)) }
     ensures cause { CountsReads (D.failures disk.old) (D.failures disk.new) result }
 {
     let whole = View::whole(alloc, size)?;
@@ -198,8 +215,8 @@ fn read_file<D: ForkDisk>(
     }
 }
 
-/// What a file has that is a disk image. Some numbers of eight bytes are read, and the entries of a partition map. A fault
-/// of the bytes is the first condition that doesn't hold; one of a partition is that partition's alone.
+/// What a file has that is a disk image. Some numbers of eight bytes are read, and the entries of a partition map. A
+/// fault of the bytes is the first condition that doesn't hold; one of a partition is that partition's alone.
 pub fn read_image<D: ForkDisk>(alloc: Global, disk: &mut D) -> Result<Image, OpenFault>
     ensures reads { D.is_honest disk.new → Learns D.ForkDisk disk.old disk.new (OpensAs result) }
     ensures there { IfOk result (λ image. AllByRecursion (IsPlaced image.size) image.contents.volumes.items) }

@@ -60,7 +60,8 @@ fn read_parts<D: ForkDisk>(
     requires few { count ≤ 1024 }
     requires room { grid.step * (count + 1) ≤ view.now.size }
     requires wide { 512 ≤ grid.step }
-    ensures reads { D.is_honest disk.new → Learns D.ForkDisk disk.old disk.new (λ file. IfOk result (λ found. MatchResult found
+    ensures reads { D.is_honest disk.new → Learns D.ForkDisk disk.old disk.new
+        (λ file. IfOk result (λ found. MatchResult found
         (λ parts. parts_from (bytes_in view.now file) grid 1 count ≡ Ok parts.items)
         (λ fault. parts_from (bytes_in view.now file) grid 1 count ≡ Err fault))) }
     ensures cause { CountsReads (D.failures disk.old) (D.failures disk.new) result }
@@ -107,7 +108,8 @@ fn read_map<D: ForkDisk>(
     requires sound { IsView view.now }
     requires size { HasBytes D.ForkDisk disk.old (λ file. view.now.file ≡ length file) }
     requires wide { 512 ≤ grid.step }
-    ensures reads { D.is_honest disk.new → Learns D.ForkDisk disk.old disk.new (λ file. IfOk result (λ found. MatchResult found
+    ensures reads { D.is_honest disk.new → Learns D.ForkDisk disk.old disk.new
+        (λ file. IfOk result (λ found. MatchResult found
         (λ parts. map_in (bytes_in view.now file) grid ≡ Ok parts.items)
         (λ fault. map_in (bytes_in view.now file) grid ≡ Err fault))) }
     ensures cause { CountsReads (D.failures disk.old) (D.failures disk.new) result }
@@ -134,7 +136,8 @@ fn has_signature<D: ForkDisk>(
 ) -> Result<bool, ReadFault>
     requires sound { IsView view.now }
     requires size { HasBytes D.ForkDisk disk.old (λ file. view.now.file ≡ length file) }
-    ensures reads { D.is_honest disk.new → Learns D.ForkDisk disk.old disk.new (λ file. IfOk result (λ has. has ≡ has_signature (bytes_in view.now file) part.now)) }
+    ensures reads { D.is_honest disk.new → Learns D.ForkDisk disk.old disk.new
+        (λ file. IfOk result (λ has. has ≡ has_signature (bytes_in view.now file) part.now)) }
     ensures cause { CountsReads (D.failures disk.old) (D.failures disk.new) result }
 {
     if !part.is_volume() {
@@ -153,7 +156,8 @@ fn have_signatures<D: ForkDisk>(
 ) -> Result<bool, ReadFault>
     requires sound { IsView view.now }
     requires size { HasBytes D.ForkDisk disk.old (λ file. view.now.file ≡ length file) }
-    ensures reads { D.is_honest disk.new → Learns D.ForkDisk disk.old disk.new (λ file. IfOk result (λ have. have ≡ list_any (has_signature (bytes_in view.now file)) parts.now)) }
+    ensures reads { D.is_honest disk.new → Learns D.ForkDisk disk.old disk.new
+        (λ file. IfOk result (λ have. have ≡ list_any (has_signature (bytes_in view.now file)) parts.now)) }
     ensures cause { CountsReads (D.failures disk.old) (D.failures disk.new) result }
 {
     for part in parts {
@@ -175,7 +179,8 @@ fn leads<D: ForkDisk>(
     requires sound { IsView view.now }
     requires size { HasBytes D.ForkDisk disk.old (λ file. view.now.file ≡ length file) }
     requires wide { 512 ≤ grid.step }
-    ensures reads { D.is_honest disk.new → Learns D.ForkDisk disk.old disk.new (λ file. IfOk result (λ is. is ≡ leads (bytes_in view.now file) grid)) }
+    ensures reads { D.is_honest disk.new → Learns D.ForkDisk disk.old disk.new
+        (λ file. IfOk result (λ is. is ≡ leads (bytes_in view.now file) grid)) }
     ensures cause { CountsReads (D.failures disk.old) (D.failures disk.new) result }
 {
     match read_map(alloc, disk, view, grid)? {
@@ -214,7 +219,8 @@ fn find_leading<D: ForkDisk>(
     requires sound { IsView view.now }
     requires size { HasBytes D.ForkDisk disk.old (λ file. view.now.file ≡ length file) }
     requires wide { AllByRecursion IsWide grids.now }
-    ensures reads { D.is_honest disk.new → Learns D.ForkDisk disk.old disk.new (λ file. IfOk result (λ found. found ≡ find (leads (bytes_in view.now file)) grids.now)) }
+    ensures reads { D.is_honest disk.new → Learns D.ForkDisk disk.old disk.new
+        (λ file. IfOk result (λ found. found ≡ find (leads (bytes_in view.now file)) grids.now)) }
     ensures wide { IfOk result (λ found. IfSome found IsWide) }
     ensures cause { CountsReads (D.failures disk.old) (D.failures disk.new) result }
 {
@@ -235,7 +241,8 @@ fn find_marked<D: ForkDisk>(
     requires sound { IsView view.now }
     requires size { HasBytes D.ForkDisk disk.old (λ file. view.now.file ≡ length file) }
     requires wide { AllByRecursion IsWide grids.now }
-    ensures reads { D.is_honest disk.new → Learns D.ForkDisk disk.old disk.new (λ file. IfOk result (λ found. found ≡ find (is_marked (bytes_in view.now file)) grids.now)) }
+    ensures reads { D.is_honest disk.new → Learns D.ForkDisk disk.old disk.new
+        (λ file. IfOk result (λ found. found ≡ find (is_marked (bytes_in view.now file)) grids.now)) }
     ensures wide { IfOk result (λ found. IfSome found IsWide) }
     ensures cause { Counts (D.failures disk.old) (D.failures disk.new) result }
 {
@@ -251,7 +258,8 @@ fn find_marked<D: ForkDisk>(
 fn find_grid<D: ForkDisk>(alloc: Global, disk: &mut D, view: &View) -> Result<Grid, ReadFault>
     requires sound { IsView view.now }
     requires size { HasBytes D.ForkDisk disk.old (λ file. view.now.file ≡ length file) }
-    ensures reads { D.is_honest disk.new → Learns D.ForkDisk disk.old disk.new (λ file. IfOk result (λ grid. grid ≡ grid_of (bytes_in view.now file))) }
+    ensures reads { D.is_honest disk.new → Learns D.ForkDisk disk.old disk.new
+        (λ file. IfOk result (λ grid. grid ≡ grid_of (bytes_in view.now file))) }
     ensures wide { IfOk result IsWide }
     ensures cause { CountsReads (D.failures disk.old) (D.failures disk.new) result }
 {
@@ -279,7 +287,8 @@ pub(crate) fn read_partitions<D: ForkDisk>(
 ) -> Result<Result<Vec<Part>, ImageFault>, ReadFault>
     requires sound { IsView view.now }
     requires size { HasBytes D.ForkDisk disk.old (λ file. view.now.file ≡ length file) }
-    ensures reads { D.is_honest disk.new → Learns D.ForkDisk disk.old disk.new (λ file. IfOk result (λ found. MatchResult found
+    ensures reads { D.is_honest disk.new → Learns D.ForkDisk disk.old disk.new
+        (λ file. IfOk result (λ found. MatchResult found
         (λ parts. map_of (bytes_in view.now file) ≡ Ok parts.items)
         (λ fault. map_of (bytes_in view.now file) ≡ Err fault))) }
     ensures cause { CountsReads (D.failures disk.old) (D.failures disk.new) result }

@@ -62,7 +62,8 @@ pub(crate) fn read_old_map<D: ForkDisk>(
 ) -> Result<Vec<Part>, ReadFault>
     requires sound { IsView view.now }
     requires size { HasBytes D.ForkDisk disk.old (λ file. view.now.file ≡ length file) }
-    ensures reads { D.is_honest disk.new → Learns D.ForkDisk disk.old disk.new (λ file. IfOk result (λ parts. parts.items ≡ old_parts (bytes_in view.now file))) }
+    ensures reads { D.is_honest disk.new → Learns D.ForkDisk disk.old disk.new
+        (λ file. IfOk result (λ parts. parts.items ≡ old_parts (bytes_in view.now file))) }
     ensures cause { CountsReads (D.failures disk.old) (D.failures disk.new) result }
 {
     if view.size < 1024 {

@@ -23,8 +23,8 @@ pub struct Found {
     pub view: View,
 }
 
-/// A volume, or why it isn't read: the number of its partition, or 0 where it is all of a disk; and where on the disk it
-/// begins.
+/// A volume, or why it isn't read: the number of its partition, or 0 where it is all of a disk; and where on the disk
+/// it begins.
 #[derive(Drop)]
 pub struct Placed {
     pub part: u16,
@@ -37,7 +37,8 @@ pub struct Placed {
 fn format_of<D: ForkDisk>(disk: &mut D, view: &View) -> Result<Option<Format>, DiskFault>
     requires sound { IsView view.now }
     requires size { HasBytes D.ForkDisk disk.old (λ file. view.now.file ≡ length file) }
-    ensures reads { D.is_honest disk.new → Learns D.ForkDisk disk.old disk.new (λ file. IfOk result (λ format. format ≡ format_of (bytes_in view.now file))) }
+    ensures reads { D.is_honest disk.new → Learns D.ForkDisk disk.old disk.new
+        (λ file. IfOk result (λ format. format ≡ format_of (bytes_in view.now file))) }
     ensures cause { Counts (D.failures disk.old) (D.failures disk.new) result }
 {
     match format_at(disk, view, 1024)? {
@@ -75,7 +76,8 @@ fn find_volume<D: ForkDisk>(
 ) -> Result<Result<Found, ImageFault>, ReadFault>
     requires sound { IsView view.now }
     requires size { HasBytes D.ForkDisk disk.old (λ file. view.now.file ≡ length file) }
-    ensures reads { D.is_honest disk.new → Learns D.ForkDisk disk.old disk.new (λ file. IfOk result (λ found. found_in file found ≡ found_of (bytes_in view.now file) part.now)) }
+    ensures reads { D.is_honest disk.new → Learns D.ForkDisk disk.old disk.new
+        (λ file. IfOk result (λ found. found_in file found ≡ found_of (bytes_in view.now file) part.now)) }
     ensures there { IfOk result (IsThere view.now.file) }
     ensures cause { CountsReads (D.failures disk.old) (D.failures disk.new) result }
 {
@@ -107,7 +109,9 @@ pub(crate) fn place_volumes<D: ForkDisk>(
 ) -> Result<Vec<Placed>, ReadFault>
     requires sound { IsView view.now }
     requires size { HasBytes D.ForkDisk disk.old (λ file. view.now.file ≡ length file) }
-    ensures reads { D.is_honest disk.new → Learns D.ForkDisk disk.old disk.new (λ file. IfOk result (λ volumes. map (placed_in file) volumes.items ≡ map (volume_of (bytes_in view.now file)) parts.now)) }
+    ensures reads { D.is_honest disk.new → Learns D.ForkDisk disk.old disk.new
+        (λ file. IfOk result
+        (λ volumes. map (placed_in file) volumes.items ≡ map (volume_of (bytes_in view.now file)) parts.now)) }
     ensures there { IfOk result (λ volumes. AllByRecursion (IsPlaced view.now.file) volumes.items) }
     ensures cause { CountsReads (D.failures disk.old) (D.failures disk.new) result }
 {

@@ -185,8 +185,8 @@ fn finds_volumes(rt: HostRuntime) {
     );
 }
 
-/// Entries of a partition map: three, of which the second is a volume of eight blocks from block 6 on, and the third has
-/// another type.
+/// Entries of a partition map: three, of which the second is a volume of eight blocks from block 6 on, and the third
+/// has another type.
 const ENTRIES: [Piece<'static>; 6] = [
     (
         512,
@@ -349,16 +349,22 @@ const VOLUME: [Piece<'static>; 14] = [
 /// The first five bytes of the data fork of the first file of the first volume of an image.
 fn first_bytes(alloc: Global, bytes: Vec<u8>) -> Option<[u8; 5]> {
     let mut disk = MemDisk::from_bytes(bytes);
-    let image = read_image(alloc, &mut disk).ok()?;
-    let found = image.into_volume(0)?.ok()?;
+    let Ok(image) = read_image(alloc, &mut disk) else {
+        return None;
+    };
+    let Some(Ok(found)) = image.into_volume(0) else {
+        return None;
+    };
     let mut volume_disk = open_volume(disk, found);
-    let volume = read_volume(alloc, &mut volume_disk).ok()?;
+    let Ok(volume) = read_volume(alloc, &mut volume_disk) else {
+        return None;
+    };
     let file = volume.entries.first()?;
-    let mut fork = open_fork(alloc, volume_disk, &volume, file, Which::Data)
-        .ok()?
-        .ok()?;
+    let Ok(Ok(mut fork)) = open_fork(alloc, volume_disk, &volume, file, Which::Data) else {
+        return None;
+    };
     let mut buffer = [0; 5];
-    if fork.len() == Ok(5) && fork.read_at(0, &mut buffer).is_ok() {
+    if matches!(fork.len(), Ok(5)) && fork.read_at(0, &mut buffer).is_ok() {
         Some(buffer)
     } else {
         None

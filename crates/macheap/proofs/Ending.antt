@@ -90,7 +90,7 @@ module _ {F S J : Type 0} (parts : Parts F S J) (words : List Text) (openings : 
   -- what was asked for was done
   pub answered : (asked : Asked) → Asks words (Ok asked) → Answers parts asked openings closed noted done → ProgramEnds parts words openings closed noted done
   answered (Run sizes files) asks answers = ran sizes (map (λ name. name.now) files.forks.items) (map (λ name. name.now) files.journals.items) asks answers
-  answered (Help text) asks answers = helped (kind_of text, asks.0, asks.1) answers.0 answers.1
+  answered (Help text) asks answers = helped (kind_of text) asks.0 asks.1 answers.0 answers.1
 
   -- it was reported why nothing was asked for
   pub was_refused : (error : NotAsked) → Asks words (Err error) → AsksForNothing openings closed noted done → Refuses error done.told → ProgramEnds parts words openings closed noted done

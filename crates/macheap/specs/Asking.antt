@@ -55,10 +55,6 @@ pub record AsksForRun (words : List Text) (sizes : ZoneSizes) (forks journals : 
 abbrev pub IsShown : ErrorKind → Type 0
 IsShown kind = (kind ≡ DisplayHelp) ⊎ (kind ≡ DisplayVersion)
 
--- the words ask for help, or for the version
-abbrev pub AsksForHelp : List Text → Type 0
-AsksForHelp words = (shown : ErrorKind) × IsAmong shown (faults words) × IsShown shown
-
 -- the words don't match the options, and don't ask for help or the version
 abbrev pub DontMatch : List Text → Type 0
 DontMatch words = (fault : ErrorKind) × IsAmong fault (faults words) × ¬ IsShown fault

@@ -4,6 +4,7 @@ use Rattle.std.specs.List.{list_any}
 use Rattle.clap.specs.Words.{Text}
 use Rattle.std.specs.declared.fs.File.{File}
 use Rattle.host_paths.specs.Asked.{Log, folder_name, is_regular, same_file}
+use Rattle.host_paths.specs.Following.{Follows}
 use Rattle.host_paths.specs.declared.host.Access.TheVariants.{Read, Both}
 use Rattle.host_paths.specs.declared.host.Answer.TheVariants.{Is}
 use Rattle.host_paths.specs.declared.host.Found.{Found}
@@ -22,14 +23,14 @@ use Rattle.macheap.specs.declared.opened.NotOpened.TheVariants.{Twice}
 abbrev pub is_known : List Found → Found → Bool
 is_known known id = list_any (λ one. same_file one id) known
 
--- the folder of a path was synced, if it can be read and that is offered
-abbrev pub SettlesName : Log → Log → Type 0
-SettlesName old new = (to : Text) × ((new ≡ Open Read (folder_name to) None ∷ old)
-    ⊎ ((folder : File) × (syncing : Syncing) × (new ≡ Sync folder (Some syncing) ∷ Open Read (folder_name to) (Some folder) ∷ old)))
+-- A path was followed over links, and the folder of where it leads was synced, if it can be read and that is offered.
+abbrev pub SettlesName : Text → Log → Log → Type 0
+SettlesName path old new = (to : Text) × (mid : Log) × Follows path to old mid × ((new ≡ Open Read (folder_name to) None ∷ mid)
+    ⊎ ((folder : File) × (syncing : Syncing) × (new ≡ Sync folder (Some syncing) ∷ Open Read (folder_name to) (Some folder) ∷ mid)))
 
 -- this file was made at this path, and its folder synced
 abbrev pub Makes : Text → File → Log → Log → Type 0
-Makes path file old new = SettlesName (OpenOrMake path (Some file) ∷ old) new
+Makes path file old new = SettlesName path (OpenOrMake path (Some file) ∷ old) new
 
 -- This file was opened by this path, to read and to write it; or to read it, since it may not be written; or it was
 -- missing, and was made.

@@ -7,3 +7,5 @@ pub mod Options
 pub mod Asking
 pub mod Program
 pub mod Saying
+pub mod Restarting
+pub mod OnDisk

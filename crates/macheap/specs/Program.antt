@@ -1,6 +1,8 @@
 -- What the program does with its words and its input.
 use Rattle.std.specs.Prelude.{◌≡◌, ◌≢◌, ℕ, ◌⊎◌, Bool, true, false, List, [], ◌++◌, map, codes, Option, unwrap_or, ⊤}
-use Rattle.clap.specs.Words.{Text}
+use Rattle.clap.specs.Words.{Text, IsAmong, kind_of}
+use Rattle.clap.specs.declared.error.kind.ErrorKind.{ErrorKind}
+use Rattle.clap.specs.declared.error.kind.ErrorKind.TheVariants.{DisplayVersion}
 use Rattle.fork_disk.specs.declared.store.ForkStore.{Ghosts}
 use Rattle.mac_base.specs.ZoneSizes.{ZoneSizes}
 use Rattle.mac_base.specs.declared.zone_spec.BadSpec.{BadSpec}
@@ -18,8 +20,9 @@ use Rattle.macheap.specs.declared.asked.Asked.{Asked}
 use Rattle.macheap.specs.declared.asked.Asked.TheVariants.{Run, Help}
 use Rattle.macheap.specs.declared.asked.NotAsked.{NotAsked}
 use Rattle.macheap.specs.declared.asked.NotAsked.TheVariants.{HostFull}
-use Rattle.macheap.specs.Asking.{AsksForRun, AsksForHelp, DontMatch, NamesTooMany, JournalsDontFit, GivesNoNumber, GivesNoMode, GivesNoZone}
+use Rattle.macheap.specs.Asking.{AsksForRun, DontMatch, IsShown, NamesTooMany, JournalsDontFit, GivesNoNumber, GivesNoMode, GivesNoZone}
 use Rattle.macheap.specs.declared.opened.NotOpened.{NotOpened}
+use Rattle.macheap.specs.Options.{faults}
 use Rattle.macheap.specs.Opening.{reason}
 use Rattle.macheap.specs.Claiming.{Asking}
 use Rattle.macheap.specs.declared.opened.NotOpened.TheVariants.{Twice}
@@ -93,16 +96,21 @@ TellsNoMemory told = (told.status ≡ 1) × Wrote no_memory_text told.write_fail
 abbrev pub about_text : List ℕ
 about_text = codes "Runs the script of standard input on a new heap zone, and writes each call's reply\nWith --look FILE it shows a zone that others made instead: see macheap --look FILE --help\n\n"
 
--- With this status a help text was written, which begins so; or a proper front of it, since a write failed; or that the
--- host has no memory.
-pub data HelpEnds (write_failed : Type 0) (status : ℕ) (written : List ℕ) : Type 0 where
-  shown : (options : List ℕ) → status ≡ 0 → written ≡ about_text ++ options → HelpEnds write_failed status written
-  cut : (options : List ℕ) → status ≡ 1 → IsProperFront written (about_text ++ options) → write_failed → HelpEnds write_failed status written
-  full : status ≡ 1 → Wrote no_memory_text write_failed written → HelpEnds write_failed status written
+-- what comes before a text that is shown: those lines before the help, and nothing before the version
+abbrev pub opening_of : ErrorKind → List ℕ
+opening_of DisplayVersion = []
+opening_of other = about_text
+
+-- With this status a text of this kind was written, which begins so; or a proper front of it, since a write failed; or
+-- that the host has no memory.
+pub data HelpEnds (kind : ErrorKind) (write_failed : Type 0) (status : ℕ) (written : List ℕ) : Type 0 where
+  shown : (text : List ℕ) → status ≡ 0 → written ≡ opening_of kind ++ text → HelpEnds kind write_failed status written
+  cut : (text : List ℕ) → status ≡ 1 → IsProperFront written (opening_of kind ++ text) → write_failed → HelpEnds kind write_failed status written
+  full : status ≡ 1 → Wrote no_memory_text write_failed written → HelpEnds kind write_failed status written
 
 -- that, and no message
-abbrev pub ShowsHelp : Told → Type 0
-ShowsHelp told = HelpEnds told.write_failed told.status told.written × told.silent
+abbrev pub ShowsHelp : ErrorKind → Told → Type 0
+ShowsHelp kind told = HelpEnds kind told.write_failed told.status told.written × told.silent
 
 -- A message says what is wrong with the words, and nothing was written.
 pub record TellsBadWords (told : Told) : Type 0 where
@@ -183,7 +191,7 @@ AsksForNothing openings closed noted done = (openings ≡ []) × (closed ≡ [])
 -- What was asked for was done: a run on a zone, or a help text, for which nothing is read.
 abbrev pub Answers : {F S J : Type 0} → Parts F S J → Asked → List (Opening F) → List (AnyStore S J) → AnyMoments S J → Done → Type 0
 Answers parts (Run sizes files) openings closed noted done = RunEnds parts sizes (map (λ name. name.now) files.forks.items) (map (λ name. name.now) files.journals.items) openings closed noted done
-Answers parts (Help text) openings closed noted done = AsksForNothing openings closed noted done × ShowsHelp done.told
+Answers parts (Help text) openings closed noted done = AsksForNothing openings closed noted done × ShowsHelp (kind_of text) done.told
 
 -- the words are bad, name too many files, or journals that don't fit them, or give numbers of which there is no mode or
 -- no zone
@@ -195,8 +203,8 @@ AreBad words = DontMatch words ⊎ (NamesTooMany words ⊎ (JournalsDontFit word
 pub data ProgramEnds {F S J : Type 0} (parts : Parts F S J) (words : List Text) (openings : List (Opening F)) (closed : List (AnyStore S J)) (noted : AnyMoments S J) (done : Done) : Type 0 where
   -- a run on the zone that the words give, over the files that they name
   ran : (sizes : ZoneSizes) (forks journals : List Text) → AsksForRun words sizes forks journals → RunEnds parts sizes forks journals openings closed noted done → ProgramEnds parts words openings closed noted done
-  -- a help text, or as much of it as the output took
-  helped : AsksForHelp words → AsksForNothing openings closed noted done → ShowsHelp done.told → ProgramEnds parts words openings closed noted done
+  -- the help or the version, as the words ask for, or as much of it as the output took
+  helped : (kind : ErrorKind) → IsAmong kind (faults words) → IsShown kind → AsksForNothing openings closed noted done → ShowsHelp kind done.told → ProgramEnds parts words openings closed noted done
   -- a message, since the words are bad
   refused : AreBad words → AsksForNothing openings closed noted done → TellsBadWords done.told → ProgramEnds parts words openings closed noted done
   -- that the host has no memory for the words

@@ -6,7 +6,7 @@ ghost use Rattle.macheap.specs.Claiming.{HasLock, IsClaimed, IsOpening, LeadsTo,
 use crate::opened::{NewFile, NotOpened};
 use fork_disk::HostFile;
 use host_paths::{
-    Access, Found, HostCalls, Locking, Syncing, folder_name, followed, found_of, found_over, lock,
+    Access, Found, HostCalls, Locking, Syncing, folder_name, follow, found_of, found_over, lock,
     open, open_or_make, sync,
 };
 use std::fs::File;
@@ -38,11 +38,11 @@ fn is_known(known: &[Found], found: &Found) -> bool
 
 /// Syncs the folder of a file that was made, where it can be read, so that a crash leaves the file its name.
 fn settle_name(rt: &HostRuntime, path: &str, calls: &mut HostCalls) -> Result<(), NotOpened>
-    ensures settles { OnOk result (SettlesName calls.old.events calls.new.events) }
+    ensures settles { OnOk result (SettlesName path.now calls.old.events calls.new.events) }
     ensures first { IfErr result (λ why. why ≢ NotOpened.Twice) }
 {
-    let path = followed(rt, path).map_err(unopened)?;
-    match open(rt, folder_name(&path), Access::Read, calls) {
+    let to = follow(rt, path, calls).map_err(unopened)?;
+    match open(rt, folder_name(&to), Access::Read, calls) {
         Ok(folder) => sync(&folder, calls).map_err(unopened).map(|_| ()),
         Err(error) if error.kind() == ErrorKind::PermissionDenied => Ok(()),
         Err(error) => Err(unopened(error)),

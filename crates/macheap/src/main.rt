@@ -6,19 +6,16 @@ mod asked;
 mod claimed;
 mod disk;
 mod files;
-mod look;
 mod moments;
 mod name;
 mod opened;
 mod program;
-mod shown;
 mod stores;
 
 use disk::Disk;
 use fork_disk::store::PlainStore;
 use fork_disk::{Unknown, World};
 use fork_journal::{FilePair, Journal, PairWorld, UnknownPair};
-use look::{asks_for_look, looked};
 use moments::AnyMoments;
 use program::{BAD_WORDS, program};
 use script_run::{Counted, status, tell_no_memory};
@@ -26,6 +23,7 @@ use std::io::ErrorKind;
 use std::process::ExitCode;
 use std::{env, io};
 use stores::HostDisks;
+use zone_view::{Acts, asks_for_look, looked};
 
 fn main(rt: HostRuntime) -> ExitCode {
     run_on_host::<Unknown, UnknownPair>(&rt)
@@ -43,7 +41,14 @@ fn run_on_host<W: World, V: PairWorld>(rt: &HostRuntime) -> ExitCode {
     };
     let words = words.as_slice();
     if asks_for_look(words) {
-        return ExitCode::from(looked(rt, words));
+        let mut acts = Acts::new();
+        return ExitCode::from(looked(
+            rt,
+            words,
+            &mut rt.stdout(),
+            &mut rt.stderr(),
+            &mut acts,
+        ));
     }
     let mut input = Counted::new(rt.stdin());
     let mut output = Counted::new(rt.stdout());

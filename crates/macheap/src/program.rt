@@ -1,6 +1,7 @@
 //! What the program does with its words, its input and its output.
 
 ghost use Rattle.std.specs.Prelude.{◌≡◌, ◌≢◌, ◌≤◌, ◌++◌, [], ℕ, List, length, map};
+ghost use Rattle.clap.specs.Words.{kind_of};
 ghost use Rattle.macheap.specs.Files.{most_files};
 ghost use Rattle.script_run.specs.Counting.{RoseByOne, Took};
 ghost use Rattle.script_run.specs.Exact.{RunsAgree};
@@ -8,7 +9,8 @@ ghost use Rattle.script_run.specs.Headline.{RunShows};
 ghost use Rattle.script_run.specs.Recovery.{RunRecovers};
 ghost use Rattle.script_run.specs.Seen.{KeepsSeen};
 ghost use Rattle.script_run.specs.Turns.{Notes};
-ghost use Rattle.macheap.specs.Program.{Answers, AnyNotes, Did, HelpEnds, NoStoresEnd, ProgramEnds, Refuses, RunEnds, RunsOver, SaysWhy, Tells, Wrote, cannot_open_text, lacks_memory};
+ghost use Rattle.macheap.specs.Program.{Answers, AnyNotes, Did, HelpEnds, NoStoresEnd, ProgramEnds, Refuses, RunEnds, RunsOver, SaysWhy, Tells, Wrote, cannot_open_text, lacks_memory, opening_of};
+ghost use Rattle.macheap.specs.Restarting.{StartsWhereLeft};
 ghost use Rattle.macheap.specs.Stores.{Opening};
 ghost use Rattle.macheap.specs.declared.stores.AnyStore.{AnyStore};
 
@@ -20,6 +22,7 @@ use crate::opened::NotOpened;
 use crate::stores::{
     NoStores, Opens, close_alone, close_journalled, journalled_stores, plain_stores,
 };
+use clap::error::ErrorKind;
 use fork_disk::store::ForkStore;
 use mac_base::zone_spec::ZoneSpec;
 use path_text::{Lines, in_lines};
@@ -85,6 +88,8 @@ pub fn program<
     // Over any runs, each of which a crash cut off at any time, a start finds what the last call settled whose reply had
     // been written, or what a later one saves.
     ensures kept { KeepsSeen S.ForkStore × KeepsSeen J.ForkStore }
+    // Of a run that starts after a crash this rests on the disk alone.
+    ensures starts { StartsWhereLeft (record { files = O.asking; store = S.ForkStore; with_journal = J.ForkStore; plain = O.plain; pairs = O.pairs }) }
     ensures exact { RunsAgree S.ForkStore × RunsAgree J.ForkStore }
     // Where something failed, the status says so.
     ensures no_read_failed { result ≢ 1 → input.new.failures ≡ input.old.failures }
@@ -367,16 +372,27 @@ fn tell<E: Display, M: Write>(alloc: Global, error: &E, messages: &mut Counted<M
     let _ = write_whole(messages, b"\n");
 }
 
-/// Writes the help text, and gives the exit status.
+/// What is written before a text that was asked for.
+fn opening_of(text: &clap::Error) -> &'static [u8]
+    ensures { result.now ≡ opening_of (kind_of text.now) }
+{
+    match text.kind() {
+        ErrorKind::DisplayVersion => b"",
+        _ => ABOUT,
+    }
+}
+
+/// Writes the help or the version, and gives the exit status.
 fn show_help<W: Write>(alloc: Global, output: &mut Counted<W>, text: &clap::Error) -> u8
     ensures ends { (written : List ℕ) × Took W.contents output.old written output.new
-        × HelpEnds (RoseByOne output.old.failures output.new.failures) result written }
+        × HelpEnds (kind_of text.now) (RoseByOne output.old.failures output.new.failures) result written }
     ensures no_write_failed { result ≢ 1 → output.new.failures ≡ output.old.failures }
 {
+    let opening = opening_of(text);
     let Ok(text) = format!(in alloc; "{text}") else {
         return status(tell_no_memory(output));
     };
-    if !write_whole(output, ABOUT) {
+    if !write_whole(output, opening) {
         return status(RunEnd::WriteFault);
     }
     if !write_whole(output, text.as_bytes()) {

@@ -1,6 +1,7 @@
 //! The stores of a run.
 
 ghost use Rattle.std.specs.Prelude.{◌≡◌, ◌≤◌, ◌++◌, ◌∷◌, [], List, ℕ, Result, Ok, length, map, IfOk, IfErr, OnOk};
+ghost use Rattle.fork_disk.specs.Crash.{Finds};
 ghost use Rattle.macheap.specs.Claiming.{AreNamed, Asking, IsOpening};
 ghost use Rattle.macheap.specs.declared.opened.NotOpened.{NotOpened};
 ghost use Rattle.macheap.specs.declared.stores.AnyStore.{AnyStore};
@@ -72,6 +73,10 @@ pub trait Opens<F, S: ForkStore, J: ForkStore> {
     fn close(&mut self, store: AnyStore<S, J>)
         ensures closed { closed self.new ≡ closed self.old ++ store ∷ [] }
         ensures none_opened { openings self.new ≡ openings self.old };
+
+    /// Until something happens to a store that was just made of two files, which were synced, a start finds its fork and
+    /// no other.
+    ghost starts: { (number : ℕ) (fork journal : F) (store : J) → pairs number fork journal store → Finds J.may_find (λ found. found ≡ J.fork store) (J.history store) };
 }
 
 /// Closes a store, and notes it as it is.
@@ -109,6 +114,7 @@ impl<W: World, V: PairWorld> Opens<NewFile, PlainStore<Disk<W>>, Journal<FilePai
     for HostDisks<'_, PlainStore<Disk<W>>, Journal<FilePair<V>>> {
     ghost use Rattle.macheap.specs.Disks.{IsFile};
     ghost use Rattle.macheap.specs.Claiming.{as_opened};
+    ghost use Rattle.macheap.specs.OnDisk.{none_other};
 
     ghost openings = { λ opener. opener.opened.events };
 
@@ -120,6 +126,8 @@ impl<W: World, V: PairWorld> Opens<NewFile, PlainStore<Disk<W>>, Journal<FilePai
 
     ghost pairs = { λ number fork journal store. (store.pair.fork ≡ record fork.file { which = 0 })
         × (store.pair.journal ≡ record journal.file { which = 1 }) × (store.pair.number ≡ number) × (store.pair.log.events ≡ []) };
+
+    ghost starts = { λ number fork journal store made. none_other (V.held store.pair.number) store.pair.log.events made.3 };
 
     fn open(&mut self, path: &str, naming: Naming, known: &[Found]) -> Result<NewFile, NotOpened> {
         let file = open_claimed(self.runtime, path, naming, known);

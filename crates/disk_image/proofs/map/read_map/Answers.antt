@@ -2,7 +2,7 @@ use Rattle.std.proofs.Common.{◌≡◌, ◌+◌, ℕ, List, length, true, false
 use Rattle.hfs_tree.proofs.Learned.{keeps_both}
 use Rattle.disk_image.specs.Devices.{bytes_in}
 use Rattle.disk_image.specs.Known.{number_at}
-use Rattle.disk_image.specs.Maps.{has_room, is_marked, parts_from}
+use Rattle.disk_image.specs.Maps.{has_room, parts_from}
 use Rattle.disk_image.proofs.MapsRead.{unmarked_map, crowded_map, map_is, room_few, room_inside}
 use Rattle.disk_image.proofs.Views.{view_length}
 use Rattle.disk_image.proofs.map.read_map.Goals as goal

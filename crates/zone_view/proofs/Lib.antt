@@ -1,0 +1,5 @@
+mod Found
+mod Written
+mod Noted
+mod AllSeen
+mod Ending
