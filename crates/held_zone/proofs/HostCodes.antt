@@ -42,5 +42,5 @@ high IoErr = refl
 high FnfErr = refl
 
 -- a code of the host's is none of the Toolbox's
-pub none-guests : (e : HostErr) (guest : OsErr) → host_code e ≡ code_of guest → ⊥
-none-guests e guest same = let both : true ≡ false = sym (low e) ∙ ap is_low same ∙ high guest in cc
+pub none_guests : (e : HostErr) (guest : OsErr) → host_code e ≡ code_of guest → ⊥
+none_guests e guest same = let both : true ≡ false = sym (low e) ∙ ap is_low same ∙ high guest in cc

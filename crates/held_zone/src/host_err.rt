@@ -29,6 +29,7 @@ pub enum HostErr {
 
 impl HostErr {
     /// The number of the code: -1000 or less. No refusal of the Toolbox has it.
+    #[tactic(auto, using(crate::proofs::HostCodes::none_guests))]
     pub fn code(self) -> i16
         ensures code { result ≡ host_code self }
         ensures no_guests { (guest : OsErr) → result ≡ code_of guest → ⊥ }
