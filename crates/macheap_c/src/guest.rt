@@ -64,7 +64,7 @@ fn make_at(
     if asleep.is_live() {
         return Err(Refusal::Host(HostErr::InUse));
     }
-    let spec = spec.ok_or(Refusal::Host(HostErr::BadNumber))?;
+    let spec = spec.ok_or(HostErr::BadNumber)?;
     make(alloc, asleep, memory, spec)
 }
 

@@ -55,7 +55,7 @@ pub extern "C" fn mh_image(alloc: Global, zone: &mut MhZone, bytes: &mut [u8]) -
 fn copy_image(session: &Session, bytes: &mut [u8]) -> Result<(), Refusal>
     ensures { ImageShown (sized (length bytes.old)) session.now (reply_code result) bytes.old bytes.new }
 {
-    let image = session.memory.image().map_err(Refusal::Toolbox)?;
+    let image = session.memory.image()?;
     if image.len() != bytes.len() {
         return Err(Refusal::Host(HostErr::BadNumber));
     }

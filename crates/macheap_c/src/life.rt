@@ -53,8 +53,8 @@ fn make(alloc: Global, zone: &mut MhZone, spec: Option<ZoneSpec>) -> Result<(), 
     if zone.is_live() {
         return Err(Refusal::Host(HostErr::InUse));
     }
-    let spec = spec.ok_or(Refusal::Host(HostErr::BadNumber))?;
-    let session = Session::create(alloc, spec).map_err(|_| Refusal::Toolbox(OsErr::MemFullErr))?;
+    let spec = spec.ok_or(HostErr::BadNumber)?;
+    let session = Session::create(alloc, spec).map_err(|_| OsErr::MemFullErr)?;
     zone.put(session);
     Ok(())
 }

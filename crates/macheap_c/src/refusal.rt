@@ -15,6 +15,28 @@ pub(crate) enum Refusal {
     Host(HostErr),
 }
 
+impl From<OsErr> for Refusal {
+    ghost use Rattle.std.specs.Prelude.{◌≡◌};
+    ghost use Rattle.macheap_c.specs.declared.refusal.Refusal.TheVariants as refusals;
+
+    ghost from_gives = { λ code refusal. refusal ≡ refusals.Toolbox code };
+
+    fn from(code: OsErr) -> Refusal {
+        Refusal::Toolbox(code)
+    }
+}
+
+impl From<HostErr> for Refusal {
+    ghost use Rattle.std.specs.Prelude.{◌≡◌};
+    ghost use Rattle.macheap_c.specs.declared.refusal.Refusal.TheVariants as refusals;
+
+    ghost from_gives = { λ code refusal. refusal ≡ refusals.Host code };
+
+    fn from(code: HostErr) -> Refusal {
+        Refusal::Host(code)
+    }
+}
+
 impl Refusal {
     /// The number of its code.
     fn code(self) -> i16
