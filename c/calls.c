@@ -402,8 +402,8 @@ static void lending(void) {
     for (int n = 0; n < 8; n++) IS(mh_lend(&zone, new_ptr(&zone, 4)), MH_NO_ERR);
     IS(mh_lend(&zone, new_ptr(&zone, 4)), MH_PARAM_ERR);
     ended(&zone);
-    IS(mh_lend(&zone, b), MH_PARAM_ERR);
-    IS(mh_return(&zone, b), MH_PARAM_ERR);
+    IS(mh_lend(&zone, b), MH_NOT_THERE);
+    IS(mh_return(&zone, b), MH_NOT_THERE);
 }
 
 /* The code of mh_window, which writes nothing. */

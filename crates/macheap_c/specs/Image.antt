@@ -1,5 +1,5 @@
 -- What C is shown of a zone's bytes.
-use Rattle.std.specs.Prelude.{◌≡◌, ◌⊎◌, ◌<◌, ℕ, ℤ, pos, ◌==◌, if◌then◌else◌, List, length, Option, Some, None, Result, Ok, Err}
+use Rattle.std.specs.Prelude.{◌≡◌, ◌⊎◌, ◌<◌, ℕ, ℤ, ◌==◌, if◌then◌else◌, List, length, Option, Some, None, Result, Ok, Err}
 use Rattle.linked_zone.specs.Image.{IsImage}
 use Rattle.mac_base.specs.Codes.{minus}
 use Rattle.held_zone.specs.Fields.{with_fields}
