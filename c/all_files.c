@@ -247,13 +247,13 @@ static void many_ids(bool in_turn) {
 
 int main(void) {
     uint32_t number = 7;
-    IS(mr_count_types(&files, &zone, &number), MH_PARAM_ERR);
+    IS(mr_count_types(&files, &zone, &number), MH_NOT_THERE);
     IS(mh_make_zone_large(&zone, BASE, SIZE, SIZE, 32), MH_NO_ERR);
-    IS(mr_count_types(&files, &zone, &number), MH_PARAM_ERR);
-    IS(mr_count_resources(&files, &zone, KIND[0], &number), MH_PARAM_ERR);
-    IS(mr_get_ind_type(&files, &zone, 1, &number), MH_PARAM_ERR);
-    IS(mr_unique_id(&files, &zone, KIND[0], &number), MH_PARAM_ERR);
-    IS(mr_get_ind_resource(&files, &zone, KIND[0], 1, &number), MH_PARAM_ERR);
+    IS(mr_count_types(&files, &zone, &number), MH_NOT_THERE);
+    IS(mr_count_resources(&files, &zone, KIND[0], &number), MH_NOT_THERE);
+    IS(mr_get_ind_type(&files, &zone, 1, &number), MH_NOT_THERE);
+    IS(mr_unique_id(&files, &zone, KIND[0], &number), MH_NOT_THERE);
+    IS(mr_get_ind_resource(&files, &zone, KIND[0], 1, &number), MH_NOT_THERE);
     IS(number, 7);
     IS(mr_begin(&files), MH_NO_ERR);
     compare();

@@ -117,10 +117,10 @@ static bool attached(int line, uint32_t size, uint32_t limit, uint32_t mode) {
     same(line, "the code of mh_attach", mh_attach(&asleep, &memory, BASE, size, limit, mode), wanted ? MH_NO_ERR : MH_DAMAGED);
     same(line, "the bytes' place", memory.start == ram && memory.length == limit && memory.here, true);
     same(line, "the code of mh_make_zone_of", mh_make_zone_of(&zone, BASE, size, limit, mode, ram, size), wanted ? MH_NO_ERR : MH_DAMAGED);
-    same(line, "the code of mh_end_zone", mh_end_zone(&zone), wanted ? MH_NO_ERR : MH_PARAM_ERR);
+    same(line, "the code of mh_end_zone", mh_end_zone(&zone), wanted ? MH_NO_ERR : MH_NOT_THERE);
     if (wanted) same(line, "the code of mh_wake", mh_wake(&zone, &asleep, &memory), MH_NO_ERR);
     if (wanted) same(line, "the code of mh_sleep", mh_sleep(&zone, &asleep, &memory), MH_NO_ERR);
-    same(line, "the code of mh_end_asleep", mh_end_asleep(&asleep), wanted ? MH_NO_ERR : MH_PARAM_ERR);
+    same(line, "the code of mh_end_asleep", mh_end_asleep(&asleep), wanted ? MH_NO_ERR : MH_NOT_THERE);
     same(line, "the bytes", memcmp(before, ram, limit), 0);
     for (int at = 0; at < EDGE; at++) if (room[at] != 0xE5 || ram[limit + (uint32_t)at] != 0xE5) same(line, "an edge", 0, 1);
     return wanted;
@@ -264,7 +264,7 @@ static void attached_again(MhZone *zone, uint32_t limit, uint32_t mode) {
     IS(mh_attach(&other, &memory, BASE, (uint32_t)size, limit, mode), MH_NO_ERR);
     IS(mh_end_asleep(&asleep), MH_NO_ERR);
     IS(mh_wake(zone, &other, &memory), MH_NO_ERR);
-    IS(mh_end_asleep(&other), MH_PARAM_ERR);
+    IS(mh_end_asleep(&other), MH_NOT_THERE);
 }
 
 /* One call: which it is, and its operands. */
@@ -303,7 +303,7 @@ static void random_calls(uint32_t mode, uint32_t calls) {
     IS(mh_make_zone(&zones[1], BASE, SIZE, MOST, mode), MH_NO_ERR);
     IS(mh_make_zone_at(&asleep, &memory, BASE, SIZE, MOST, mode), MH_NO_ERR);
     IS(mh_wake(&zones[2], &asleep, &memory), MH_NO_ERR);
-    IS(mh_end_asleep(&asleep), MH_PARAM_ERR);
+    IS(mh_end_asleep(&asleep), MH_NOT_THERE);
     for (uint32_t n = 0; n < calls; n++) {
         uint32_t *one = &live[below(LIVE)], numbers[3][2] = {{0}};
         Call call = {below(12), *one, below(900), below(8) * 32};
@@ -338,25 +338,25 @@ static void misuse(void) {
     MhMemory memory = {ram, 4096, true}, gone = {NULL, 0, false};
     uint32_t number = 0;
     IS(COPIED(&zone, 4096), 4096);
-    IS(mh_attach(&asleep, &gone, BASE, 4096, 4096, 24), MH_PARAM_ERR);
+    IS(mh_attach(&asleep, &gone, BASE, 4096, 4096, 24), MH_NOT_THERE);
     IS(gone.start == NULL && gone.length == 0 && !gone.here, true);
-    IS(mh_attach(&asleep, &memory, BASE, 4096, 4096, 25), MH_PARAM_ERR);
-    IS(mh_attach(&asleep, &memory, BASE, 4096, 8192, 24), MH_PARAM_ERR);
-    IS(mh_attach(&asleep, &memory, BASE + 2, 4096, 4096, 24), MH_PARAM_ERR);
+    IS(mh_attach(&asleep, &memory, BASE, 4096, 4096, 25), MH_BAD_NUMBER);
+    IS(mh_attach(&asleep, &memory, BASE, 4096, 8192, 24), MH_BAD_NUMBER);
+    IS(mh_attach(&asleep, &memory, BASE + 2, 4096, 4096, 24), MH_BAD_NUMBER);
     IS(mh_attach(&asleep, &memory, BASE, 4096, 4096, 32), MH_DAMAGED);
     IS(mh_attach(&asleep, &memory, BASE, 4080, 4096, 24), MH_DAMAGED);
     IS(mh_attach(&asleep, &memory, BASE + 4, 4096, 4096, 24), MH_DAMAGED);
-    IS(mh_end_asleep(&asleep), MH_PARAM_ERR);
+    IS(mh_end_asleep(&asleep), MH_NOT_THERE);
     IS(mh_attach(&asleep, &memory, BASE, 4096, 4096, 24), MH_NO_ERR);
-    IS(mh_attach(&asleep, &memory, BASE, 4096, 4096, 24), MH_PARAM_ERR);
+    IS(mh_attach(&asleep, &memory, BASE, 4096, 4096, 24), MH_IN_USE);
     IS(memory.start == ram && memory.length == 4096 && memory.here, true);
     IS(mh_end_asleep(&asleep), MH_NO_ERR);
-    IS(mh_make_zone_of(&zone, BASE, 4096, 4096, 24, ram, 4096), MH_PARAM_ERR);
-    IS(mh_make_zone_of(&other, BASE, 4096, 4096, 24, ram, 4092), MH_PARAM_ERR);
-    IS(mh_make_zone_of(&other, BASE, 4096, 4092, 24, ram, 4096), MH_PARAM_ERR);
-    IS(mh_make_zone_of(&other, BASE, 4096, 4096, 0, ram, 4096), MH_PARAM_ERR);
+    IS(mh_make_zone_of(&zone, BASE, 4096, 4096, 24, ram, 4096), MH_IN_USE);
+    IS(mh_make_zone_of(&other, BASE, 4096, 4096, 24, ram, 4092), MH_BAD_NUMBER);
+    IS(mh_make_zone_of(&other, BASE, 4096, 4092, 24, ram, 4096), MH_BAD_NUMBER);
+    IS(mh_make_zone_of(&other, BASE, 4096, 4096, 0, ram, 4096), MH_BAD_NUMBER);
     IS(mh_make_zone_of(&other, BASE, 4096, 4096, 32, ram, 4096), MH_DAMAGED);
-    IS(mh_free_mem(&other, &number), MH_PARAM_ERR);
+    IS(mh_free_mem(&other, &number), MH_NOT_THERE);
     IS(mh_end_zone(&zone), MH_NO_ERR);
 }
 

@@ -89,9 +89,9 @@ static void refused(void) {
     static uint8_t many[MAX + 1];
     MhZone zone = MH_NO_ZONE;
     uint32_t out = 7, h = 0, e = 0;
-    IS(new_handle_of(&zone, "a", &out), MH_PARAM_ERR);
-    IS(set_handle_to(&zone, 0x10003C, "a"), MH_PARAM_ERR);
-    IS(append(&zone, 0x10003C, "a"), MH_PARAM_ERR);
+    IS(new_handle_of(&zone, "a", &out), MH_NOT_THERE);
+    IS(set_handle_to(&zone, 0x10003C, "a"), MH_NOT_THERE);
+    IS(append(&zone, 0x10003C, "a"), MH_NOT_THERE);
     zone = fresh();
     IS(new_handle_of(&zone, "stays", &h), MH_NO_ERR);
     IS(mh_new_empty_handle(&zone, &e), MH_NO_ERR);

@@ -76,39 +76,39 @@ static void misuse(void) {
     MhCarried carried = {.kind = 12};
     MhWindow window = {&byte, 13};
     for (int round = 0; round < 2; round++) {
-        IS(mh_end_zone(&zone), MH_PARAM_ERR);
-        IS(mh_new_handle(&zone, 6, &out), MH_PARAM_ERR);
-        IS(mh_new_ptr(&zone, 6, &out), MH_PARAM_ERR);
-        IS(mh_dispose_handle(&zone, BASE + 0x3C), MH_PARAM_ERR);
-        IS(mh_set_handle_size(&zone, BASE + 0x3C, 10), MH_PARAM_ERR);
-        IS(mh_get_handle_size(&zone, BASE + 0x3C, &out), MH_PARAM_ERR);
-        IS(mh_free_mem(&zone, &out), MH_PARAM_ERR);
-        IS(mh_max_mem(&zone, &out, &other), MH_PARAM_ERR);
-        IS(mh_hlock(&zone, BASE + 0x3C), MH_PARAM_ERR);
-        IS(mh_peek(&zone, BASE + 0x3C, 0, &byte, 1), MH_PARAM_ERR);
-        IS(mh_poke(&zone, BASE + 0x3C, 0, &byte, 1), MH_PARAM_ERR);
-        IS(mh_first_block(&zone, &out), MH_PARAM_ERR);
-        IS(mh_block(&zone, BASE + 0x34, &block), MH_PARAM_ERR);
-        IS(mh_image_size(&zone, &size), MH_PARAM_ERR);
-        IS(mh_image(&zone, &byte, 1), MH_PARAM_ERR);
-        IS(mh_queue_answer(&zone, &answer), MH_PARAM_ERR);
-        IS(mh_asked(&zone, &out), MH_PARAM_ERR);
-        IS(mh_ask(&zone, 0, &ask), MH_PARAM_ERR);
-        IS(mh_carried(&zone, 0, 0, &carried), MH_PARAM_ERR);
-        IS(mh_window(&zone, BASE + 0x3C, &window), MH_PARAM_ERR);
+        IS(mh_end_zone(&zone), MH_NOT_THERE);
+        IS(mh_new_handle(&zone, 6, &out), MH_NOT_THERE);
+        IS(mh_new_ptr(&zone, 6, &out), MH_NOT_THERE);
+        IS(mh_dispose_handle(&zone, BASE + 0x3C), MH_NOT_THERE);
+        IS(mh_set_handle_size(&zone, BASE + 0x3C, 10), MH_NOT_THERE);
+        IS(mh_get_handle_size(&zone, BASE + 0x3C, &out), MH_NOT_THERE);
+        IS(mh_free_mem(&zone, &out), MH_NOT_THERE);
+        IS(mh_max_mem(&zone, &out, &other), MH_NOT_THERE);
+        IS(mh_hlock(&zone, BASE + 0x3C), MH_NOT_THERE);
+        IS(mh_peek(&zone, BASE + 0x3C, 0, &byte, 1), MH_NOT_THERE);
+        IS(mh_poke(&zone, BASE + 0x3C, 0, &byte, 1), MH_NOT_THERE);
+        IS(mh_first_block(&zone, &out), MH_NOT_THERE);
+        IS(mh_block(&zone, BASE + 0x34, &block), MH_NOT_THERE);
+        IS(mh_image_size(&zone, &size), MH_NOT_THERE);
+        IS(mh_image(&zone, &byte, 1), MH_NOT_THERE);
+        IS(mh_queue_answer(&zone, &answer), MH_NOT_THERE);
+        IS(mh_asked(&zone, &out), MH_NOT_THERE);
+        IS(mh_ask(&zone, 0, &ask), MH_NOT_THERE);
+        IS(mh_carried(&zone, 0, 0, &carried), MH_NOT_THERE);
+        IS(mh_window(&zone, BASE + 0x3C, &window), MH_NOT_THERE);
         if (round == 0) { /* once more after a zone that has ended */
             zone = fresh();
             ended(&zone);
         }
     }
-    IS(mh_make_zone(&zone, BASE, 4096, 4096, 16), MH_PARAM_ERR);
-    IS(mh_make_zone(&zone, BASE, 508, 4096, 24), MH_PARAM_ERR);
-    IS(mh_make_zone(&zone, BASE, 510, 4096, 24), MH_PARAM_ERR);
-    IS(mh_make_zone(&zone, BASE, 513, 4096, 24), MH_PARAM_ERR);
-    IS(mh_make_zone(&zone, BASE, 4096, 4097, 24), MH_PARAM_ERR);
-    IS(mh_make_zone(&zone, BASE + 2, 4096, 4096, 24), MH_PARAM_ERR);
-    IS(mh_make_zone(&zone, BASE, 4096, 4104, 24), MH_PARAM_ERR);
-    IS(mh_make_zone(&zone, BASE, UINT32_MAX, UINT32_MAX, 32), MH_PARAM_ERR);
+    IS(mh_make_zone(&zone, BASE, 4096, 4096, 16), MH_BAD_NUMBER);
+    IS(mh_make_zone(&zone, BASE, 508, 4096, 24), MH_BAD_NUMBER);
+    IS(mh_make_zone(&zone, BASE, 510, 4096, 24), MH_BAD_NUMBER);
+    IS(mh_make_zone(&zone, BASE, 513, 4096, 24), MH_BAD_NUMBER);
+    IS(mh_make_zone(&zone, BASE, 4096, 4097, 24), MH_BAD_NUMBER);
+    IS(mh_make_zone(&zone, BASE + 2, 4096, 4096, 24), MH_BAD_NUMBER);
+    IS(mh_make_zone(&zone, BASE, 4096, 4104, 24), MH_BAD_NUMBER);
+    IS(mh_make_zone(&zone, BASE, UINT32_MAX, UINT32_MAX, 32), MH_BAD_NUMBER);
     IS(out, 7);
     IS(other, 8);
     IS(byte, 9);
@@ -119,7 +119,7 @@ static void misuse(void) {
     IS(window.length, 13);
     zone = fresh();
     uint32_t h = new_handle(&zone, 6);
-    IS(mh_make_zone(&zone, BASE, 4096, 4096, 24), MH_PARAM_ERR);
+    IS(mh_make_zone(&zone, BASE, 4096, 4096, 24), MH_IN_USE);
     IS(mh_get_handle_size(&zone, h, &out), MH_NO_ERR);
     IS(out, 6);
     ended(&zone);
@@ -136,7 +136,7 @@ static void refused(void) {
     IS(mh_get_handle_size(&zone, h + 1, &out), MH_MEM_WZ_ERR);
     IS(mh_get_ptr_size(&zone, h, &out), MH_MEM_WZ_ERR);
     IS(mh_recover_handle(&zone, 5, &out), MH_MEM_BC_ERR);
-    IS(mh_ask(&zone, 0, &(MhAsk){0}), MH_PARAM_ERR);
+    IS(mh_ask(&zone, 0, &(MhAsk){0}), MH_NONE_SUCH);
     IS(out, 7);
     IS(mh_peek(&zone, h, 3, bytes, 4), MH_PARAM_ERR);
     IS(mh_peek(&zone, h, UINT32_MAX, bytes, 4), MH_PARAM_ERR);
@@ -332,7 +332,7 @@ static void growing(void) {
     IS(count, 2);
     ASKS(&zone, 0, 3808, 40, 0);
     ASKS(&zone, 1, 3808, 0, 0);
-    IS(mh_ask(&zone, 2, &ask), MH_PARAM_ERR);
+    IS(mh_ask(&zone, 2, &ask), MH_NONE_SUCH);
     IS(mh_get_handle_size(&zone, h, &out), MH_NO_ERR);
     IS(out, 3000);
     IS(mh_asked(&zone, &count), MH_NO_ERR);
@@ -341,7 +341,7 @@ static void growing(void) {
     /* Sixteen answers may wait, and all are asked for. */
     zone = fresh();
     for (int n = 0; n < 16; n++) IS(mh_queue_answer(&zone, &(MhAnswer){.value = 1}), MH_NO_ERR);
-    IS(mh_queue_answer(&zone, &(MhAnswer){.value = 1}), MH_PARAM_ERR);
+    IS(mh_queue_answer(&zone, &(MhAnswer){.value = 1}), MH_IN_USE);
     IS(mh_new_handle(&zone, 4000, &out), MH_MEM_FULL_ERR);
     IS(mh_asked(&zone, &count), MH_NO_ERR);
     IS(count, 16);
@@ -351,15 +351,15 @@ static void growing(void) {
     zone = fresh();
     uint32_t r = new_handle(&zone, 2000);
     IS(mh_queue_answer(&zone, &(MhAnswer){1, {{MH_NO_CALL, 9}, {MH_DISPOSE_HANDLE, r}}}), MH_NO_ERR);
-    IS(mh_queue_answer(&zone, &(MhAnswer){1, {{4, r}}}), MH_PARAM_ERR);
+    IS(mh_queue_answer(&zone, &(MhAnswer){1, {{4, r}}}), MH_BAD_NUMBER);
     IS(new_handle(&zone, 3000), 0x10003C);
     ASKS(&zone, 0, 3008, 1, 1);
     IS(mh_carried(&zone, 0, 0, &carried), MH_NO_ERR);
     IS(carried.kind, MH_DISPOSE_HANDLE);
     IS(carried.operand, r);
     IS(carried.code, MH_NO_ERR);
-    IS(mh_carried(&zone, 0, 1, &carried), MH_PARAM_ERR);
-    IS(mh_carried(&zone, 1, 0, &carried), MH_PARAM_ERR);
+    IS(mh_carried(&zone, 0, 1, &carried), MH_NONE_SUCH);
+    IS(mh_carried(&zone, 1, 0, &carried), MH_NONE_SUCH);
     /* With no answer left there is no procedure. */
     IS(mh_new_handle(&zone, 3000, &out), MH_MEM_FULL_ERR);
     IS(mh_ask(&zone, 0, &ask), MH_NO_ERR);
@@ -402,8 +402,8 @@ static void lending(void) {
     for (int n = 0; n < 8; n++) IS(mh_lend(&zone, new_ptr(&zone, 4)), MH_NO_ERR);
     IS(mh_lend(&zone, new_ptr(&zone, 4)), MH_PARAM_ERR);
     ended(&zone);
-    IS(mh_lend(&zone, b), MH_PARAM_ERR);
-    IS(mh_return(&zone, b), MH_PARAM_ERR);
+    IS(mh_lend(&zone, b), MH_NOT_THERE);
+    IS(mh_return(&zone, b), MH_NOT_THERE);
 }
 
 /* The code of mh_window, which writes nothing. */
@@ -475,7 +475,7 @@ static void windows(uint32_t mode) {
     IS(memcmp(image + (n - BASE), "willos", 6), 0);
     IS(other.start - window.start, (int64_t)p - (int64_t)n);
     ended(&zone);
-    IS(NO_WINDOW(&zone, b), MH_PARAM_ERR);
+    IS(NO_WINDOW(&zone, b), MH_NOT_THERE);
     /* A block without bytes has a window too, and a zone may end with one. */
     zone = sized(4096, 4096, mode);
     p = new_ptr(&zone, 0);
@@ -506,8 +506,8 @@ static void has_bytes(int line, MhZone *zone, const Word *words, uint32_t count,
     same(line, "the code of mh_image_size", mh_image_size(zone, &size), MH_NO_ERR);
     same(line, "the size of the zone's bytes", (int64_t)size, 4096);
     memset(bytes, 0xEE, sizeof bytes);
-    same(line, "the code of mh_image with too little room", mh_image(zone, bytes, 4095), MH_PARAM_ERR);
-    same(line, "the code of mh_image with too much room", mh_image(zone, bytes, 4097), MH_PARAM_ERR);
+    same(line, "the code of mh_image with too little room", mh_image(zone, bytes, 4095), MH_BAD_NUMBER);
+    same(line, "the code of mh_image with too much room", mh_image(zone, bytes, 4097), MH_BAD_NUMBER);
     same(line, "the first byte, not written", bytes[0], 0xEE);
     same(line, "the code of mh_image", mh_image(zone, bytes, 4096), MH_NO_ERR);
     for (uint32_t n = 0; n < 4096; n++) {
@@ -621,16 +621,16 @@ static void large(void) {
     const uint32_t low = 0x1000, high = 0xFBFFFFFC;
     MhZone zone = MH_NO_ZONE;
     uint32_t out = 7;
-    IS(mh_make_zone(&zone, low, 0xFFF000, 0xFFF000, 24), MH_PARAM_ERR);
-    IS(mh_make_zone(&zone, high, 0x4000000, 0x4000000, 32), MH_PARAM_ERR);
-    IS(mh_make_zone_large(&zone, low, 0xFFF000, 0xFFF004, 24), MH_PARAM_ERR);
-    IS(mh_make_zone_large(&zone, low, 4096, 0xFFF004, 24), MH_PARAM_ERR);
-    IS(mh_make_zone_large(&zone, high, 4096, 0x4000004, 32), MH_PARAM_ERR);
-    IS(mh_make_zone_large(&zone, low, 4096, 0x40000004, 32), MH_PARAM_ERR);
-    IS(mh_make_zone_large(&zone, low, 4096, 4096, 16), MH_PARAM_ERR);
-    IS(mh_end_zone(&zone), MH_PARAM_ERR);
+    IS(mh_make_zone(&zone, low, 0xFFF000, 0xFFF000, 24), MH_BAD_NUMBER);
+    IS(mh_make_zone(&zone, high, 0x4000000, 0x4000000, 32), MH_BAD_NUMBER);
+    IS(mh_make_zone_large(&zone, low, 0xFFF000, 0xFFF004, 24), MH_BAD_NUMBER);
+    IS(mh_make_zone_large(&zone, low, 4096, 0xFFF004, 24), MH_BAD_NUMBER);
+    IS(mh_make_zone_large(&zone, high, 4096, 0x4000004, 32), MH_BAD_NUMBER);
+    IS(mh_make_zone_large(&zone, low, 4096, 0x40000004, 32), MH_BAD_NUMBER);
+    IS(mh_make_zone_large(&zone, low, 4096, 4096, 16), MH_BAD_NUMBER);
+    IS(mh_end_zone(&zone), MH_NOT_THERE);
     IS(mh_make_zone_large(&zone, low, 0xFFF000, 0xFFF000, 24), MH_NO_ERR);
-    IS(mh_make_zone_large(&zone, low, 0xFFF000, 0xFFF000, 24), MH_PARAM_ERR);
+    IS(mh_make_zone_large(&zone, low, 0xFFF000, 0xFFF000, 24), MH_IN_USE);
     uint32_t a = new_handle(&zone, 5000000), b = new_handle(&zone, 4000000), c = new_handle(&zone, 6000000);
     poke(&zone, b, "move");
     IS(mh_dispose_handle(&zone, a), MH_NO_ERR);

@@ -82,7 +82,7 @@ static void held(Guest *guest) {
     IS(mh_holder(&guest->zone, BASE - 1, &block), MH_MEM_WZ_ERR);
     IS(mh_holder(&guest->zone, UINT32_MAX, &block), MH_MEM_WZ_ERR);
     SLEEP(guest);
-    IS(mh_holder(&guest->zone, BASE, &block), MH_PARAM_ERR);
+    IS(mh_holder(&guest->zone, BASE, &block), MH_NOT_THERE);
 }
 
 /* One byte differs in some bits, and all contents and the guest's fields of the zone's header are others: mh_check says so where one of
@@ -115,16 +115,16 @@ static void refused(Guest *guest) {
     MhFault fault = {77, 77};
     MhAsleep none = MH_NO_ASLEEP;
     MhMemory fewer = {ram, LIMIT - 1, true}, gone = {NULL, 0, false};
-    IS(mh_check(&none, &guest->memory, &fault), MH_PARAM_ERR);
-    IS(mh_check(&guest->asleep, &fewer, &fault), MH_PARAM_ERR);
-    IS(mh_check(&guest->asleep, &gone, &fault), MH_PARAM_ERR);
-    IS(mh_repair(&none, &guest->memory), MH_PARAM_ERR);
-    IS(mh_repair(&guest->asleep, &fewer), MH_PARAM_ERR);
-    IS(mh_repair(&guest->asleep, &gone), MH_PARAM_ERR);
+    IS(mh_check(&none, &guest->memory, &fault), MH_NOT_THERE);
+    IS(mh_check(&guest->asleep, &fewer, &fault), MH_BAD_NUMBER);
+    IS(mh_check(&guest->asleep, &gone, &fault), MH_NOT_THERE);
+    IS(mh_repair(&none, &guest->memory), MH_NOT_THERE);
+    IS(mh_repair(&guest->asleep, &fewer), MH_BAD_NUMBER);
+    IS(mh_repair(&guest->asleep, &gone), MH_NOT_THERE);
     IS(fault.offset == 77 && fault.part == 77 && fewer.here && fewer.length == LIMIT - 1 && !gone.here, true);
     WAKE(guest);
-    IS(mh_check(&guest->asleep, &guest->memory, &fault), MH_PARAM_ERR);
-    IS(mh_repair(&guest->asleep, &guest->memory), MH_PARAM_ERR);
+    IS(mh_check(&guest->asleep, &guest->memory, &fault), MH_NOT_THERE);
+    IS(mh_repair(&guest->asleep, &guest->memory), MH_NOT_THERE);
     SLEEP(guest);
 }
 

@@ -43,7 +43,7 @@ static void slept(int line, Guest *guest) {
 static void ended(Guest *guest) {
     uint32_t limit = (uint32_t)guest->memory.length;
     IS(mh_end_asleep(&guest->asleep), MH_NO_ERR);
-    IS(mh_end_asleep(&guest->asleep), MH_PARAM_ERR);
+    IS(mh_end_asleep(&guest->asleep), MH_NOT_THERE);
     for (int at = 0; at < EDGE; at++) IS(room[at] == 0xE5 && room[EDGE + limit + at] == 0xE5, true);
 }
 
@@ -461,7 +461,7 @@ static void what_was_written(uint32_t mode) {
     SLEEP(&guest);
     memcpy(before, ram, SIZE);
     WAKE(&guest);
-    IS(mh_sleep_wrote(&guest.zone, &guest.asleep, &guest.memory, ranges, 0, &count), MH_PARAM_ERR);
+    IS(mh_sleep_wrote(&guest.zone, &guest.asleep, &guest.memory, ranges, 0, &count), MH_BAD_NUMBER);
     IS(count, 77);
     IS(mh_hlock(&guest.zone, handles[19]), MH_NO_ERR);
     SLEEP_TELLING(&guest, 16);
@@ -688,29 +688,31 @@ static void misuse(void) {
     uint32_t handle = 0;
     MhZone plain = MH_NO_ZONE;
     Guest none = {MH_NO_ZONE, MH_NO_ASLEEP, {elsewhere, 4096, true}, 24};
-    IS(mh_wake(&none.zone, &none.asleep, &none.memory), MH_PARAM_ERR);
-    IS(mh_sleep(&none.zone, &none.asleep, &none.memory), MH_PARAM_ERR);
-    IS(mh_make_zone_at(&none.asleep, &none.memory, BASE, 4096, 8192, 24), MH_PARAM_ERR);
-    IS(mh_make_zone_at(&none.asleep, &none.memory, BASE, 4096, 4096, 25), MH_PARAM_ERR);
+    IS(mh_wake(&none.zone, &none.asleep, &none.memory), MH_NOT_THERE);
+    IS(mh_sleep(&none.zone, &none.asleep, &none.memory), MH_IN_USE);
+    IS(mh_make_zone_at(&none.asleep, &none.memory, BASE, 4096, 8192, 24), MH_BAD_NUMBER);
+    IS(mh_make_zone_at(&none.asleep, &none.memory, BASE, 4096, 4096, 25), MH_BAD_NUMBER);
     IS(none.memory.start == elsewhere && none.memory.length == 4096 && none.memory.here, true);
     Guest guest = made(4096, 4096, 24);
-    IS(mh_make_zone_at(&guest.asleep, &guest.memory, BASE, 4096, 4096, 24), MH_PARAM_ERR);
-    IS(mh_new_handle(&guest.zone, 10, &handle), MH_PARAM_ERR);
-    IS(mh_end_zone(&guest.zone), MH_PARAM_ERR);
+    IS(mh_make_zone_at(&guest.asleep, &guest.memory, BASE, 4096, 4096, 24), MH_IN_USE);
+    IS(mh_new_handle(&guest.zone, 10, &handle), MH_NOT_THERE);
+    IS(mh_get_handle_size(&guest.zone, 0, &handle), MH_NOT_THERE);
+    IS(mh_lend(&guest.zone, BASE), MH_NOT_THERE);
+    IS(mh_end_zone(&guest.zone), MH_NOT_THERE);
     guest.memory.length = 4092;
-    IS(mh_wake(&guest.zone, &guest.asleep, &guest.memory), MH_PARAM_ERR);
+    IS(mh_wake(&guest.zone, &guest.asleep, &guest.memory), MH_BAD_NUMBER);
     guest.memory.length = 4096;
     IS(mh_make_zone(&plain, BASE, 4096, 4096, 24), MH_NO_ERR);
-    IS(mh_wake(&plain, &guest.asleep, &guest.memory), MH_PARAM_ERR);
-    IS(mh_sleep(&plain, &none.asleep, &guest.memory), MH_PARAM_ERR);
+    IS(mh_wake(&plain, &guest.asleep, &guest.memory), MH_IN_USE);
+    IS(mh_sleep(&plain, &none.asleep, &guest.memory), MH_IN_USE);
     WAKE(&guest);
     IS(guest.memory.start == NULL && guest.memory.length == 0 && !guest.memory.here, true);
-    IS(mh_sleep(&plain, &guest.asleep, &guest.memory), MH_PARAM_ERR);
-    IS(mh_wake(&guest.zone, &guest.asleep, &guest.memory), MH_PARAM_ERR);
-    IS(mh_sleep(&guest.zone, &guest.asleep, &none.memory), MH_PARAM_ERR);
+    IS(mh_sleep(&plain, &guest.asleep, &guest.memory), MH_NOT_THERE);
+    IS(mh_wake(&guest.zone, &guest.asleep, &guest.memory), MH_IN_USE);
+    IS(mh_sleep(&guest.zone, &guest.asleep, &none.memory), MH_IN_USE);
     IS(mh_new_ptr(&guest.zone, 10, &handle), MH_NO_ERR);
     SLEEP(&guest);
-    IS(mh_sleep(&guest.zone, &guest.asleep, &guest.memory), MH_PARAM_ERR);
+    IS(mh_sleep(&guest.zone, &guest.asleep, &guest.memory), MH_IN_USE);
     memcpy(elsewhere, ram, 4096);
     MhMemory moved = {elsewhere, 4096, true};
     IS(mh_wake(&guest.zone, &guest.asleep, &moved), MH_NO_ERR);

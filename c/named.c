@@ -128,6 +128,8 @@ static MhErr set_info(uint32_t handle, int16_t id, const char *name, size_t leng
 static void other_names(void) {
     static const Given one[] = {{"TEXT", 128, "first"}, {"TEXT", 129, NULL}};
     char longest[256];
+    uint8_t few[254];
+    MrInfo info = {0, 0, 0};
     uint32_t first = 0, second = 0, file = 0;
     size_t length = 0;
     memset(longest, 'n', sizeof longest);
@@ -139,6 +141,8 @@ static void other_names(void) {
     IS(set_info(first, -7, "other", 5), MH_NO_ERR);
     CALLED(first, -7, "other");
     CALLED(second, 129, "");
+    IS(mr_get_res_info(&files, &zone, first, &info, few, sizeof few), MH_BAD_NUMBER);
+    IS(info.id, 0);
     IS(HERE(TEXT, "OTHER"), -7);
     IS(HERE(TEXT, "first"), CODE(MR_RES_NOT_FOUND));
     IS(mr_get1_resource(&files, &zone, TEXT, -7, &file), MH_NO_ERR);
@@ -156,7 +160,10 @@ static void other_names(void) {
     /* the file reads back so */
     IS(mr_close_res_file(&files, &zone, 1), MH_NO_ERR);
     IS(mr_fork_size(&files, 1, &length), MH_NO_ERR);
+    IS(mr_fork(&files, 1, fork, length + 1), MH_BAD_NUMBER);
+    IS(mr_fork(&files, 0, fork, length), MH_NONE_SUCH);
     IS(mr_fork(&files, 1, fork, length), MH_NO_ERR);
+    IS(mr_fork_size(&files, 256, &length), MH_NONE_SUCH);
     IS(mr_open(&files, &zone, fork, length, &file), MH_NO_ERR);
     IS(HERE(TEXT, "other"), 300);
     IS(id_of(mr_get1_named_resource, TEXT, longest, 255), 129);
@@ -220,10 +227,10 @@ static void of_file(const char *path) {
 
 int main(int count, char **words) {
     uint32_t handle = 0;
-    IS(mr_get_named_resource(&files, &zone, TEXT, (const uint8_t *)"a", 1, &handle), MH_PARAM_ERR);
+    IS(mr_get_named_resource(&files, &zone, TEXT, (const uint8_t *)"a", 1, &handle), MH_NOT_THERE);
     IS(mh_make_zone(&zone, BASE, SIZE, SIZE, 32), MH_NO_ERR);
-    IS(mr_get1_named_resource(&files, &zone, TEXT, (const uint8_t *)"a", 1, &handle), MH_PARAM_ERR);
-    IS(set_info(BASE, 1, "a", 1), MH_PARAM_ERR);
+    IS(mr_get1_named_resource(&files, &zone, TEXT, (const uint8_t *)"a", 1, &handle), MH_NOT_THERE);
+    IS(set_info(BASE, 1, "a", 1), MH_NOT_THERE);
     IS(mr_begin(&files), MH_NO_ERR);
     by_hand();
     other_names();

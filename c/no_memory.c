@@ -58,7 +58,7 @@ static MhErr loads(MrFiles *files, MhZone *zone) {
     MrFiles again = MR_NO_FILES;
     (void)files;
     MhErr code = mr_load(&again, zone, saved, count_saved);
-    MUST(mr_end(&again) == (code == MH_NO_ERR ? MH_NO_ERR : MH_PARAM_ERR));
+    MUST(mr_end(&again) == (code == MH_NO_ERR ? MH_NO_ERR : MH_NOT_THERE));
     return code;
 }
 
@@ -122,8 +122,8 @@ static void bytes_in_turn(void) {
         left = count;
         codes[1] = mh_attach(&asleep, &memory, 0x100000, 4096, 4096, 24);
         left = -1;
-        MUST(mh_end_zone(&zone) == (codes[0] ? MH_PARAM_ERR : MH_NO_ERR));
-        MUST(mh_end_asleep(&asleep) == (codes[1] ? MH_PARAM_ERR : MH_NO_ERR));
+        MUST(mh_end_zone(&zone) == (codes[0] ? MH_NOT_THERE : MH_NO_ERR));
+        MUST(mh_end_asleep(&asleep) == (codes[1] ? MH_NOT_THERE : MH_NO_ERR));
         for (int n = 0; n < 2; n++) MUST(codes[n] == MH_NO_ERR || codes[n] == MH_MEM_FULL_ERR);
         MUST(memory.start == bytes && memory.here);
         for (int at = 0; at < 4096; at++) MUST(bytes[at] == image[at]);
@@ -162,7 +162,7 @@ int main(void) {
         left = count;
         code = mh_make_zone(&zone, 0x100000, 4096, 4096, 24);
         left = -1;
-        if (mh_end_zone(&zone) != (code == MH_NO_ERR ? MH_NO_ERR : MH_PARAM_ERR)) {
+        if (mh_end_zone(&zone) != (code == MH_NO_ERR ? MH_NO_ERR : MH_NOT_THERE)) {
             printf("a zone that was refused is there, or one that was made isn't\n");
             return 1;
         }

@@ -252,7 +252,7 @@ static void by_hand(void) {
     static const Has text = {.id = 128, .size = 10, .bytes = "0123456789"}, none = {.id = 129};
     uint8_t bytes[4] = {9, 9, 9, 9};
     uint32_t handle = 0, size = 0;
-    without_a_file(MH_PARAM_ERR);
+    without_a_file(MH_NOT_THERE);
     IS(mr_begin(&files), MH_NO_ERR);
     without_a_file(MR_RES_F_NOT_FOUND);
     all[0] = text;

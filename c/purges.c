@@ -50,7 +50,7 @@ static void waits(int line, MhZone *zone, uint32_t wanted) {
 
 static void not_held(int line, MhZone *zone) {
     uint32_t handle = 7;
-    same(line, "the code of mh_would_purge", mh_would_purge(zone, &handle), MH_PARAM_ERR);
+    same(line, "the code of mh_would_purge", mh_would_purge(zone, &handle), MH_NONE_SUCH);
     same(line, "the handle that is left", handle, 7);
 }
 #define NOT_HELD(zone) not_held(__LINE__, zone)
@@ -232,9 +232,9 @@ static void lacks(uint32_t size, uint32_t made) {
 static void without_zone(void) {
     MhZone zone = MH_NO_ZONE;
     uint32_t out = 7, found[2] = {7, 7};
-    IS(mh_hold_purges(&zone, 1), MH_PARAM_ERR);
-    IS(mh_would_purge(&zone, &out), MH_PARAM_ERR);
-    IS(mh_purged(&zone, found, 2, &out), MH_PARAM_ERR);
+    IS(mh_hold_purges(&zone, 1), MH_NOT_THERE);
+    IS(mh_would_purge(&zone, &out), MH_NOT_THERE);
+    IS(mh_purged(&zone, found, 2, &out), MH_NOT_THERE);
     IS(out, 7);
     IS(found[0], 7);
     zone = fresh();

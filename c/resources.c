@@ -289,10 +289,10 @@ int main(int count, char **words) {
     uint32_t file = 0;
     made(words[5], "TEXT", "STR ");
     made(words[6], "STR ", "ICON");
-    if (mr_count1_types(&files, &zone, &file) != MH_PARAM_ERR || mr_end(&files) != MH_PARAM_ERR) return 1;
+    if (mr_count1_types(&files, &zone, &file) != MH_NOT_THERE || mr_end(&files) != MH_NOT_THERE) return 1;
     if (mh_make_zone(&zone, BASE, 2048, 4096, 24) != MH_NO_ERR) return 1;
-    if (mr_count1_types(&files, &zone, &file) != MH_PARAM_ERR) return 1;
-    if (mr_begin(&files) != MH_NO_ERR || mr_begin(&files) != MH_PARAM_ERR) return 1;
+    if (mr_count1_types(&files, &zone, &file) != MH_NOT_THERE) return 1;
+    if (mr_begin(&files) != MH_NO_ERR || mr_begin(&files) != MH_IN_USE) return 1;
     for (uint32_t n = 1; n <= FORKS; n++) {
         if (mr_open(&files, &zone, fork, read_fork(words[4 + n]), &file) != MH_NO_ERR || file != n) return 1;
         is_open[n] = true;

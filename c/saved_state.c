@@ -123,8 +123,8 @@ static size_t saves(MrFiles *files, MhZone *zone, uint8_t *bytes) {
     size_t length = 0;
     IS(mr_save_size(files, zone, &length), MH_NO_ERR);
     IS(length <= sizeof saved, true);
-    IS(mr_save(files, zone, bytes, length + 1), MH_PARAM_ERR);
-    IS(mr_save(files, zone, bytes, length - 1), MH_PARAM_ERR);
+    IS(mr_save(files, zone, bytes, length + 1), MH_BAD_NUMBER);
+    IS(mr_save(files, zone, bytes, length - 1), MH_BAD_NUMBER);
     IS(mr_save(files, zone, bytes, length), MH_NO_ERR);
     return length;
 }
@@ -134,10 +134,10 @@ static void pauses(World *world) {
     size_t length = takes_image(&world->zone, image), count = saves(&world->files, &world->zone, saved);
     IS(mr_end(&world->files), MH_NO_ERR);
     IS(mh_end_zone(&world->zone), MH_NO_ERR);
-    IS(mr_load(&world->files, &world->zone, saved, count), MH_PARAM_ERR);
+    IS(mr_load(&world->files, &world->zone, saved, count), MH_NOT_THERE);
     IS(mh_make_zone_of(&world->zone, BASE, (uint32_t)length, LIMIT, MODE, image, length), MH_NO_ERR);
     IS(mr_load(&world->files, &world->zone, saved, count), MH_NO_ERR);
-    IS(mr_load(&world->files, &world->zone, saved, count), MH_PARAM_ERR);
+    IS(mr_load(&world->files, &world->zone, saved, count), MH_IN_USE);
     IS(saves(&world->files, &world->zone, again), count);
     IS(memcmp(saved, again, count), 0);
 }
@@ -260,9 +260,9 @@ static void hostile(void) {
     IS(mr_save_size(&world.files, &world.zone, &count), MR_BAD_STATE);
     IS(mr_save(&world.files, &world.zone, again, 100), MR_BAD_STATE);
     IS(mr_end(&world.files), MH_NO_ERR);
-    IS(mr_save_size(&world.files, &world.zone, &count), MH_PARAM_ERR);
+    IS(mr_save_size(&world.files, &world.zone, &count), MH_NOT_THERE);
     IS(mh_end_zone(&world.zone), MH_NO_ERR);
-    IS(mr_save_size(&world.files, &world.zone, &count), MH_PARAM_ERR);
+    IS(mr_save_size(&world.files, &world.zone, &count), MH_NOT_THERE);
     IS(mh_end_zone(&empty), MH_NO_ERR);
 }
 

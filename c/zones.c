@@ -221,7 +221,7 @@ static void ends(int zone) {
         }
     }
     handle = 7;
-    IS(mr_first_loaded(&files, &zones[zone], &handle), MH_PARAM_ERR);
+    IS(mr_first_loaded(&files, &zones[zone], &handle), MH_NONE_SUCH);
     IS(handle, 7);
     IS(mh_end_zone(&zones[zone]), MH_NO_ERR);
     make_zone(zone);
@@ -243,7 +243,7 @@ static void saves(int zone) {
         IS(memcmp(bytes, again, length), 0);
     }
     uint32_t address = 7;
-    IS(mr_other_zone(&files, &address), MH_PARAM_ERR);
+    IS(mr_other_zone(&files, &address), MH_NONE_SUCH);
     IS(address, 7);
     IS(mr_set_system_zone(&files, system_known ? bases[0] : 0), MH_NO_ERR);
 }
@@ -447,8 +447,8 @@ static void wrong_zones(void) {
 
 int main(void) {
     uint32_t number = 0, address = 3;
-    IS(mr_set_system_zone(&files, 1), MH_PARAM_ERR);
-    IS(mr_other_zone(&files, &address), MH_PARAM_ERR);
+    IS(mr_set_system_zone(&files, 1), MH_NOT_THERE);
+    IS(mr_other_zone(&files, &address), MH_NOT_THERE);
     IS(mr_begin(&files), MH_NO_ERR);
     for (int zone = 0; zone < ZONES; zone++) make_zone(zone);
     for (int file = 1; file <= FILES; file++) {

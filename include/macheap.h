@@ -10,9 +10,10 @@
  *
  * Yours are the bytes that you, or a guest that you run, read and write; but not while a call on their zone runs.
  *
- * Each function is one call, and returns an OSErr: 0 (noErr) or a negative code. A call that is refused writes
- * nothing through its pointers (but mh_check and mh_look, whose fault comes with MH_DAMAGED). What each does, to the
- * byte, is what the project's contracts say of the call of that name: crates/macheap_c/specs, and docs/THEOREM.md.
+ * Each function is one call, and returns an OSErr: 0 (noErr) or a negative code. Codes of -1000 and below are the
+ * host's own: no Macintosh has them, so none is for a guest. A call that is refused writes nothing through its pointers
+ * (but mh_check and mh_look, whose fault comes with MH_DAMAGED). What each does, to the byte, is what the project's
+ * contracts say of the call of that name: crates/macheap_c/specs, and docs/THEOREM.md.
  *
  * What the caller promises, and nothing tests:
  *  - An MhZone begins as MH_NO_ZONE, and then only these functions write it. It may be moved, but a copy of one with a
@@ -27,11 +28,11 @@
  *    them.
  *  - The ranges of mh_wake_written have every byte that was written since the zone fell asleep.
  *
- * What is tested, and refused with a code and no change: any call before mh_make_zone, after mh_end_zone or
- * while the zone sleeps, mh_make_zone on a zone that is there, mh_end_zone twice (paramErr); any number as a handle, a
- * pointer, a size, an offset or an address, live or not, but not as a range of mh_wake_written. A zone that is
- * forgotten keeps its memory: end it. All memory of the host is taken by the call that makes a zone, but for a copy of
- * the bytes that mh_wake and mh_check make where a guest set flags in an empty handle's master pointer.
+ * What is tested, and refused with a code and no change: any call before mh_make_zone, after mh_end_zone or while the
+ * zone sleeps, and so mh_end_zone twice (MH_NOT_THERE); mh_make_zone on a zone that is there (MH_IN_USE); any number as
+ * a handle, a pointer, a size, an offset or an address, live or not, but not as a range of mh_wake_written. A zone that
+ * is forgotten keeps its memory: end it. All memory of the host is taken by the call that makes a zone, but for a copy
+ * of the bytes that mh_wake and mh_check make where a guest set flags in an empty handle's master pointer.
  *
  * MACHEAP_VERSION is the version of all three headers. While it begins with 0, the next one may change what is here: a
  * program is then built anew.
@@ -53,7 +54,7 @@ typedef int16_t MhErr;
 
 enum {
     MH_NO_ERR = 0,
-    MH_PARAM_ERR = -50,       /* an operand is out of its range, or there is no zone */
+    MH_PARAM_ERR = -50,       /* an operand is out of its range */
     MH_MEM_FULL_ERR = -108,   /* the zone has no room; of a call that makes a zone: the host has no memory */
     MH_NIL_HANDLE_ERR = -109, /* the handle is 0 or empty */
     MH_MEM_WZ_ERR = -111,     /* the number names no block of the zone */
@@ -61,7 +62,12 @@ enum {
     MH_MEM_BC_ERR = -115,     /* no handle's contents begin there */
     MH_DAMAGED = -116,        /* the bytes haven't the zone's structure, or are those of no zone (memSCErr) */
     MH_MEM_LOCKED_ERR = -117, /* the block is locked, or lent; of mh_wake: a lent handle isn't locked any more */
-    MH_WOULD_PURGE = -1002    /* no code of a Macintosh: the call would purge, and is held (mh_hold_purges) */
+    /* The host's own. resman.h has more. */
+    MH_NOT_THERE = -1000,   /* there is no zone awake, or none that sleeps, or no files, or the bytes are gone */
+    MH_WOULD_PURGE = -1002, /* the call would purge, and is held (mh_hold_purges) */
+    MH_IN_USE = -1005,      /* there is one already: a zone, files, or bytes of the host; or sixteen answers wait */
+    MH_BAD_NUMBER = -1006,  /* a base, a size, a limit, a mode, a kind or a count that the call doesn't take */
+    MH_NONE_SUCH = -1007    /* there is none: no ask or file with this number, no handle; or the call wasn't held */
 };
 
 /* A zone, or none. Its fields are the library's. */
@@ -75,7 +81,7 @@ typedef struct MhZone {
 /* Makes a zone that begins at the address `base`, a multiple of 4, has `size` bytes and may grow to `limit` bytes, both
  * even: the last two bytes of one that is no multiple of 4 aren't used. size is 512 at least, limit 1048576 at most and
  * size or at least 16 more, base $1000 at least, base + limit $1000000 at most. `mode` is 24 or 32: blocks with headers
- * of 8 or of 12 bytes. Else paramErr. */
+ * of 8 or of 12 bytes. Else it is MH_BAD_NUMBER; MH_IN_USE where a zone is there. */
 MhErr mh_make_zone(MhZone *zone, uint32_t base, uint32_t size, uint32_t limit, uint32_t mode);
 /* The same for a large zone. Only two bounds are other ones: limit 1073741824 at most, and base + limit $1000000 at
  * most in mode 24, whose headers and master pointers have no more bits, and below 2^32 in mode 32. The host gives 1.3
@@ -190,8 +196,8 @@ MhErr mh_block(MhZone *zone, uint32_t at, MhBlock *block);
 MhErr mh_holder(MhZone *zone, uint32_t at, MhBlock *block);
 
 /* The bytes of the zone, from its start to the end of its last block: its header, and its blocks with their headers,
- * master pointers and contents. mh_image_size says how many there are, and mh_image copies just so many; paramErr where
- * count is another number. memLockedErr while a block is lent. */
+ * master pointers and contents. mh_image_size says how many there are, and mh_image copies just so many; MH_BAD_NUMBER
+ * where count is another number. memLockedErr while a block is lent. */
 MhErr mh_image_size(MhZone *zone, size_t *size);
 MhErr mh_image(MhZone *zone, uint8_t *bytes, size_t count);
 /* Makes a zone of such bytes, whoever wrote them: mh_image and mh_make_zone_of are a save state. Keep the bytes, and
@@ -201,8 +207,8 @@ MhErr mh_image(MhZone *zone, uint8_t *bytes, size_t count);
  * end, its free bytes, its first free master pointer and its lowest free block, and any bytes in the guest's fields,
  * which are kept; its blocks fill it, none is larger than its contents need, and no two free ones are neighbours; a
  * handle's block and its master pointer lead to each other; free master pointers follow one another. Else it is
- * MH_DAMAGED. paramErr where count isn't size, for sizes that mh_make_zone_at doesn't take, and where a zone is
- * there; memFullErr where the host has no memory. */
+ * MH_DAMAGED. MH_BAD_NUMBER where count isn't size, and for sizes that mh_make_zone_at doesn't take; MH_IN_USE where a
+ * zone is there; memFullErr where the host has no memory. */
 MhErr mh_make_zone_of(MhZone *zone, uint32_t base, uint32_t size, uint32_t limit, uint32_t mode, const uint8_t *bytes,
                       size_t count);
 
@@ -211,7 +217,7 @@ MhErr mh_make_zone_of(MhZone *zone, uint32_t base, uint32_t size, uint32_t limit
  *  - An answer is what the procedure does about it. It has up to eight calls that release blocks, and a value: 0 says
  *    that nothing more can be released, and the running call fails; after any other it tries once more. You queue
  *    answers before the call, and each time that it asks, 16 times at most, it takes the one that has waited longest.
- *    Where none waits it fails. Sixteen may wait: paramErr for the next, and for a kind that there isn't.
+ *    Where none waits it fails. Sixteen may wait: MH_IN_USE for the next; MH_BAD_NUMBER for a kind that there isn't.
  *  - Carried out are those of the answer's calls that were made, in their order, each with its own code. Those on a
  *    block of the running call are skipped.
  *
@@ -230,8 +236,8 @@ MhErr mh_queue_answer(MhZone *zone, const MhAnswer *answer);
 
 /* What the zone's last call asked. mh_asked counts how often it did, and mh_ask shows one time, from 0 on: what it
  * needed, and the answer that it took. mh_carried shows one call of that answer that was carried out, from 0 on.
- * paramErr where there are not so many. Each call of the Memory Manager above, and mh_queue_answer, forgets what was
- * asked before it; the walk doesn't. */
+ * MH_NONE_SUCH where there are not so many. Each call of the Memory Manager above, and mh_queue_answer, forgets what
+ * was asked before it; the walk doesn't. */
 typedef struct MhAsk {
     uint32_t needed;   /* bytes, header included */
     uint32_t answered; /* 1, or 0 where no answer waited: the two below are 0 then */
@@ -248,14 +254,14 @@ MhErr mh_ask(MhZone *zone, uint32_t index, MhAsk *ask);
 MhErr mh_carried(MhZone *zone, uint32_t index, uint32_t place, MhCarried *carried);
 
 /* Purging. A call of the Memory Manager that finds no room purges: it empties handles that are purgeable and unlocked,
- * one after another. mh_purged shows those that the zone's last call emptied so, in order: the first of them, as many as
- * there is room for and 1,024 at most, and in `count` how many they were in all.
+ * one after another. mh_purged shows those that the zone's last call emptied so, in order: the first of them, as many
+ * as there is room for and 1,024 at most, and in `count` how many they were in all.
  *
  * A guest may have a purge-warning procedure, and a host may have to write a changed resource before it is purged. So
  * while mh_hold_purges holds them (`on` isn't 0), a call that would purge is held: it is MH_WOULD_PURGE, gives no
  * results, and has done only what it does before it purges. Where it found no room the zone has grown to its limit, and
- * where it lacked a master pointer it has made a master block. mh_would_purge gives the handle that it would purge first
- * (paramErr where the last call wasn't held). Now run the procedure, or write the resource; empty the handle
+ * where it lacked a master pointer it has made a master block. mh_would_purge gives the handle that it would purge
+ * first (MH_NONE_SUCH where the last call wasn't held). Now run the procedure, or write the resource; empty the handle
  * (mh_empty_handle), or make it unpurgeable; and make the call again, until it isn't held. If each handle was emptied,
  * it ends as one call does that isn't held, and leaves the same zone.
  *
@@ -319,24 +325,24 @@ typedef struct MhMemory {
 #define MH_NO_ASLEEP {MH_NO_ZONE}
 
 /* Makes a zone that sleeps, of the sizes that mh_make_zone_large takes and that are multiples of 4, and writes its
- * structure into the bytes, as many as its limit; no other of them changes. paramErr where they are more or fewer or
- * gone, where a zone sleeps there, and for sizes that there aren't. */
+ * structure into the bytes, as many as its limit; no other of them changes. MH_BAD_NUMBER where they are more or fewer,
+ * and for sizes that there aren't; MH_NOT_THERE where they are gone; MH_IN_USE where a zone sleeps there. */
 MhErr mh_make_zone_at(MhAsleep *asleep, MhMemory *memory, uint32_t base, uint32_t size, uint32_t limit, uint32_t mode);
 /* Makes a zone that sleeps of the bytes as they are, whoever wrote them: of memory that was saved, or of a zone that
  * this library made in another program. No byte changes. `size` is how large the zone is now, since it may have grown:
  * mh_image_size says it of a zone awake, and so do the first four bytes, which have its end, less base. The zone is
  * made exactly if the bytes are, up to its size, those of a sound zone of these sizes, as for mh_make_zone_of; else the
- * code is MH_DAMAGED. For any bytes whatever it returns, and nothing outside them is touched. paramErr and memFullErr
- * as for mh_make_zone_at.
+ * code is MH_DAMAGED. For any bytes whatever it returns, and nothing outside them is touched. Other codes come as from
+ * mh_make_zone_at.
  *
  * A state to be saved has all loans returned, isn't taken while the guest's grow-zone procedure runs, and mh_check
  * finds no fault in it. Once memory of another moment is loaded, the zone that slept over it is ended (mh_end_asleep),
  * and the bytes are attached: mh_repair would write the structure that this zone knows over what was loaded. */
 MhErr mh_attach(MhAsleep *asleep, MhMemory *memory, uint32_t base, uint32_t size, uint32_t limit, uint32_t mode);
-/* Wakes it, with what is lent. paramErr where `zone` is there, where none sleeps, and where the bytes are gone or
- * aren't as many as its limit. MH_DAMAGED where they haven't the zone's structure, memLockedErr where they have, and a
- * handle that is lent isn't locked. memFullErr where an empty handle's master pointer has flags, and the host has no
- * memory to copy the bytes while they are cleared. */
+/* Wakes it, with what is lent. MH_IN_USE where `zone` is there, MH_NOT_THERE where none sleeps and where the bytes are
+ * gone, MH_BAD_NUMBER where they aren't as many as its limit. MH_DAMAGED where they haven't the zone's structure,
+ * memLockedErr where they have, and a handle that is lent isn't locked. memFullErr where an empty handle's master
+ * pointer has flags, and the host has no memory to copy the bytes while they are cleared. */
 MhErr mh_wake(MhZone *zone, MhAsleep *asleep, MhMemory *memory);
 /* Wakes it as mh_wake does, with the same codes, and compares only what was written: the zone's header, and the
  * headers of blocks and the master pointers of blocks that have a byte in a range. `written` has `count` ranges, each
@@ -353,20 +359,22 @@ typedef struct MhWritten {
     uint32_t count;
 } MhWritten;
 MhErr mh_wake_written(MhZone *zone, MhAsleep *asleep, MhMemory *memory, const MhWritten *written, size_t count);
-/* Puts it to sleep. paramErr for a zone that isn't in bytes of the host, where another zone sleeps in `asleep`, and
- * where `memory` has bytes. What is lent stays lent, and queued answers, and what was asked, stay. */
+/* Puts it to sleep. MH_IN_USE where another zone sleeps in `asleep`, and where `memory` has bytes; MH_NOT_THERE where
+ * no zone is awake, and for one that isn't in bytes of the host. What is lent stays lent, and queued answers, and what
+ * was asked, stay. */
 MhErr mh_sleep(MhZone *zone, MhAsleep *asleep, MhMemory *memory);
 /* Puts it to sleep as mh_sleep does, and says which bytes were written since it woke: the first `*written` of `ranges`,
  * the lowest first. No byte outside them differs from what it was at mh_wake, be it in the zone's header or in a lent
- * block. They are 16 at most, since writes near each other are one range; where `count`, which says for how many there is
- * room, is less than there are, one range has all bytes. paramErr, too, where it is 0. `ranges` and `written` stay where
- * it is refused. */
+ * block. They are 16 at most, since writes near each other are one range; where `count`, which says for how many there
+ * is room, is less than there are, one range has all bytes. MH_BAD_NUMBER where it is 0. `ranges` and `written` stay
+ * where the call is refused. */
 MhErr mh_sleep_wrote(MhZone *zone, MhAsleep *asleep, MhMemory *memory, MhWritten *ranges, size_t count, size_t *written);
 /* Looks for damage, and changes no byte. If the bytes have the zone's structure the answer is 0. Else it is MH_DAMAGED,
  * and the fault is the first byte that is wrong: some bytes with the structure agree with these up to it, and none with
  * it. Flags in an empty handle's master pointer are no damage; memFullErr where there are such, and the host has no
- * memory for a copy without them. `part` is what the byte is in. paramErr where none sleeps, and where the bytes are
- * gone or aren't as many as its limit. After mh_repair and mh_wake, mh_holder of base + offset finds the block. */
+ * memory for a copy without them. `part` is what the byte is in. MH_NOT_THERE where none sleeps, and where the bytes
+ * are gone; MH_BAD_NUMBER where they aren't as many as its limit. After mh_repair and mh_wake, mh_holder of base +
+ * offset finds the block. */
 enum { MH_ZONE_HEADER = 1, MH_BLOCK_HEADER = 2, MH_MASTER_POINTER = 3 };
 typedef struct MhFault {
     uint32_t offset; /* from the zone's start */
@@ -377,7 +385,7 @@ MhErr mh_check(MhAsleep *asleep, MhMemory *memory, MhFault *fault);
  * its master pointer where its low three bytes are right; else, and where it is lent, they are those that it had when
  * the zone fell asleep or was attached. An empty handle's master pointer is 0 again: bits there say nothing. No other
  * byte changes, so contents, and the guest's fields of the zone's header, are as the guest left them, and the zone
- * wakes. paramErr as for mh_check. */
+ * wakes. MH_NOT_THERE and MH_BAD_NUMBER as for mh_check. */
 MhErr mh_repair(MhAsleep *asleep, MhMemory *memory);
 /* Ends it, and what is lent is C's no more. The bytes are as they are. (mh_end_zone of a zone that is awake in bytes of
  * the host ends it, too, and these are never given back: put it to sleep first.) */
@@ -386,8 +394,8 @@ MhErr mh_end_asleep(MhAsleep *asleep);
 /* A look at a zone that anyone made, as Inside Macintosh: Memory draws one ("Heap Zones" and "Block Headers" in chapter
  * 2): for a debugger beside another emulator. It makes nothing, and only reads. `bytes` is memory from the zone's start
  * on, which is at the address `base`: `length` bytes, as many as the zone has or more. `mode` is 24 or 32, else
- * paramErr. The blocks come as mh_block shows them, lowest first, `room` of them at most; `count` is how many there
- * are.
+ * it is MH_BAD_NUMBER. The blocks come as mh_block shows them, lowest first, `room` of them at most; `count` is how
+ * many there are.
  *
  * Where something is wrong the code is MH_DAMAGED. The blocks are then those up to it, and `wrong` says what it is: of
  * which kind, the address of what is wrong, the number that is found there, and the one that would be right, or the

@@ -22,7 +22,7 @@
  *    mr_forget. A call of this header needs none after it: it has forgotten what its answers disposed of, and may
  *    have got that number for a new handle.
  *
- * What is tested: calls before mr_begin or after mr_end, or on a zone that isn't there (paramErr); any number as a
+ * What is tested: calls before mr_begin or after mr_end, or on a zone that isn't there (MH_NOT_THERE); any number as a
  * handle or a file. Files that are forgotten keep their memory: end them. Unlike those of macheap.h, these calls may
  * take memory of the host: memFullErr says that there is none, and nothing has changed then, or of a call that loads,
  * that the zone has no room.
@@ -49,9 +49,10 @@ enum {
     MR_RMV_RES_FAILED = -196,
     MR_RES_ATTR_ERR = -198, /* the resource's attributes forbid the call */
     MR_MAP_READ_ERR = -199, /* the resource map is damaged */
-    MR_TOO_BIG = -1001,     /* no code of a Macintosh: the fork is bigger than mr_open takes */
-    MR_BAD_STATE = -1003,   /* no code of a Macintosh: files that can't be saved, or no saved files of this zone */
-    MR_OTHER_ZONE = -1004   /* no code of a Macintosh: the call has to be made over another zone (mr_other_zone) */
+    /* The host's own, as those of macheap.h from MH_NOT_THERE on. */
+    MR_TOO_BIG = -1001,   /* the fork is bigger than mr_open takes */
+    MR_BAD_STATE = -1003, /* files that can't be saved, or no saved files of this zone */
+    MR_OTHER_ZONE = -1004 /* the call has to be made over another zone (mr_other_zone) */
 };
 
 /* Resource files, or none. Its fields are the library's. */
@@ -62,7 +63,7 @@ typedef struct MrFiles {
 
 #define MR_NO_FILES {false, NULL}
 
-/* Begins files of which none is open. paramErr where they have begun. mr_end ends them; what isn't written stays
+/* Begins files of which none is open. MH_IN_USE where they have begun. mr_end ends them; what isn't written stays
  * unwritten. */
 MhErr mr_begin(MrFiles *files);
 MhErr mr_end(MrFiles *files);
@@ -74,21 +75,21 @@ MhErr mr_end(MrFiles *files);
  * files at most are open at a time, or it is tmfoErr. */
 MhErr mr_open(MrFiles *files, MhZone *zone, const uint8_t *fork, size_t length, uint32_t *file);
 /* How many bytes the fork of a file has now, and a copy of them, for the host to write: after an update they are the
- * new fork's. After mr_close_res_file they are there until the number is used again. paramErr where `length` is
- * another one. */
+ * new fork's. After mr_close_res_file they are there until the number is used again. MH_NONE_SUCH where `file`
+ * isn't 1 to 255, MH_BAD_NUMBER where `length` is another one. */
 MhErr mr_fork_size(MrFiles *files, uint32_t file, size_t *length);
 MhErr mr_fork(MrFiles *files, uint32_t file, uint8_t *fork, size_t length);
 
 /* Save states, with mh_image or the guest's memory: all that the files are, as bytes. mr_save_size says how many there
- * are, and mr_save copies just so many; paramErr where `count` is another number. mr_load makes files of them where
- * none have begun (paramErr), over the same zone or one that has its handles, as one made of its bytes: each call does
- * then what it would have done without the pause, once mr_set_system_zone is called as before. Forks, those of closed
- * files too, the files' numbers and order, the current file, what mr_set_res_load set, and what each resource is, with
- * its handle and whether it was changed, are as they were. Call mr_forget before, if the zone's last call asked. It is
- * MR_BAD_STATE where files can't be saved, since a handle of a resource that is in this zone isn't live, or two
- * resources have one handle, or the names of a file have more bytes than a fork can say; and where no mr_save over this
- * zone copies these bytes, whoever wrote them. Nothing has changed then, nor where the host has no memory (memFullErr).
- * The bytes are this library's own; the 13th is their version. */
+ * are, and mr_save copies just so many; MH_BAD_NUMBER where `count` is another number. mr_load makes files of them
+ * where none have begun (MH_IN_USE), over the same zone or one that has its handles, as one made of its bytes: each
+ * call does then what it would have done without the pause, once mr_set_system_zone is called as before. Forks, those
+ * of closed files too, the files' numbers and order, the current file, what mr_set_res_load set, and what each resource
+ * is, with its handle and whether it was changed, are as they were. Call mr_forget before, if the zone's last call
+ * asked. It is MR_BAD_STATE where files can't be saved, since a handle of a resource that is in this zone isn't live,
+ * or two resources have one handle, or the names of a file have more bytes than a fork can say; and where no mr_save
+ * over this zone copies these bytes, whoever wrote them. Nothing has changed then, nor where the host has no memory
+ * (memFullErr). The bytes are this library's own; the 13th is their version. */
 MhErr mr_save_size(MrFiles *files, MhZone *zone, size_t *size);
 MhErr mr_save(MrFiles *files, MhZone *zone, uint8_t *bytes, size_t count);
 MhErr mr_load(MrFiles *files, MhZone *zone, const uint8_t *bytes, size_t count);
@@ -150,7 +151,8 @@ MhErr mr_unique_id(MrFiles *files, MhZone *zone, uint32_t kind, uint32_t *number
 MhErr mr_count_types(MrFiles *files, MhZone *zone, uint32_t *number);
 MhErr mr_count_resources(MrFiles *files, MhZone *zone, uint32_t kind, uint32_t *number);
 MhErr mr_get_ind_type(MrFiles *files, MhZone *zone, uint32_t index, uint32_t *kind);
-/* What a resource is called. The bytes of its name are written to `name`, which has 255 at least, or it is paramErr. */
+/* What a resource is called. The bytes of its name are written to `name`, which has 255 at least, or it is
+ * MH_BAD_NUMBER. */
 typedef struct MrInfo {
     uint32_t kind;
     int16_t id;
@@ -180,8 +182,9 @@ MhErr mr_close_res_file(MrFiles *files, MhZone *zone, uint32_t file);
  * over its zone, and before the file is closed give it up by mr_release_resource; and so on with each.
  * mr_set_system_zone says which address the system zone has: from then on a resource with resSysHeap (64) that has no
  * handle yet is got over that zone alone. With 0, as at first, it is got as all others are. mr_first_loaded returns the
- * first handle that a resource has in a zone, and paramErr where there is none: before a zone ends, dispose of each.
- * mr_save needs one zone alone; mr_save_size over another one is MR_BAD_STATE where a handle that is there isn't live. */
+ * first handle that a resource has in a zone, and MH_NONE_SUCH where there is none: before a zone ends, dispose of
+ * each. mr_save needs one zone alone; mr_save_size over another one is MR_BAD_STATE where a handle that is there isn't
+ * live. */
 MhErr mr_other_zone(MrFiles *files, uint32_t *address);
 MhErr mr_set_system_zone(MrFiles *files, uint32_t address);
 MhErr mr_first_loaded(MrFiles *files, MhZone *zone, uint32_t *handle);

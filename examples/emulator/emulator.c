@@ -124,11 +124,13 @@ static MhErr made(Machine *machine, const MhTrap *row, Given *given) {
     }
 }
 
-/* Makes a trap's call, and leaves its code, and its results in registers, where the program looks for them. */
+/* Makes a trap's call, and leaves its code, and its results in registers, where the program looks for them. A code of the host's
+ * own isn't for the guest, which stops. */
 static void answer(Machine *machine, const MhTrap *row) {
     Cpu *cpu = &machine->cpu;
     Given given = {0, 0};
     MhErr code = made(machine, row, &given);
+    if (code <= MH_NOT_THERE) { cpu->fault = "the host made a mistake"; return; }
     m68k_write(cpu, row->on_stack ? MH_LOW_RES_ERR : MH_LOW_MEM_ERR, 2, (uint32_t)(int32_t)code);
     if (row->on_stack) return;
     if (row->results[0].place == MH_A0) cpu->a[0] = given.a0;

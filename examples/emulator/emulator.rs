@@ -191,9 +191,14 @@ fn made(cpu: &mut Cpu, word: u16) -> Option<Result<u32>> {
     }
 }
 
-/// Makes a trap's call, and leaves its code, and its results in registers, where the program looks for them.
+/// Makes a trap's call, and leaves its code, and its results in registers, where the program looks for them. A code of the host's own
+/// isn't for the guest, which stops.
 fn answer(cpu: &mut Cpu, word: u16) {
     let Some(given) = made(cpu, word) else { return };
+    if given.is_err_and(OsErr::is_hosts) {
+        cpu.fault = c"the host made a mistake".as_ptr();
+        return;
+    }
     let code = given.map_or_else(|code| sign_extended(code.0), |_| 0);
     m68k_write(cpu, if is_on_stack(word) { RES_ERR } else { MEM_ERR }, 2, code);
     if is_on_stack(word) {

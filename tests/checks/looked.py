@@ -14,7 +14,7 @@ import sys
 sys.path.append(os.path.join(os.path.dirname(os.path.dirname(os.path.abspath(__file__))), "model"))
 import any_zone as zones  # noqa: E402
 
-PARAM_ERR, DAMAGED = -50, -116
+BAD_NUMBER, DAMAGED = -1006, -116
 BASE = 0x2000
 
 # by hand: the header with bkLim, hFstFree and fields that a guest wrote; a block of four master pointers; a handle's block of 5 bytes with 3
@@ -162,7 +162,7 @@ def rows(library):
         wrong += differs(library, BASE, ZONE_24[:length], 24, 9, blocks, None if blocks else fault)
     for mode in (0, 16, 25, 64):
         rows_now, count, fault, code = library.found(BASE, ZONE_24, mode, 3)
-        wrong += (set(rows_now), count, fault, code) != ({(7,) * 6}, 7, (7,) * 4, PARAM_ERR)
+        wrong += (set(rows_now), count, fault, code) != ({(7,) * 6}, 7, (7,) * 4, BAD_NUMBER)
     return wrong
 
 

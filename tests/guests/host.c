@@ -186,6 +186,7 @@ static void make(const MhTrap *row) {
             if (released(needed) != 0) continue;
             set_reg(UC_M68K_REG_A7, after);
         }
+        if (code <= MH_NOT_THERE) fail("a code that isn't for a guest");
         write_bytes(row->on_stack ? MH_LOW_RES_ERR : MH_LOW_MEM_ERR, 2, (uint32_t)(int32_t)code);
         if (row->on_stack) return;
         if (row->results[0].place == MH_A0) set_reg(UC_M68K_REG_A0, handle);

@@ -11,6 +11,13 @@ use sys::{MH_NO_ASLEEP, MH_NO_ZONE, MhAnswer, MhAsk, MhAsleep, MhBlock, MhCarrie
 #[derive(Clone, Copy, Debug, PartialEq, Eq)]
 pub struct OsErr(pub i16);
 
+impl OsErr {
+    /// Whether the code is the host's own, as `MH_NOT_THERE`: no Macintosh has it, so it isn't for a guest.
+    pub fn is_hosts(self) -> bool {
+        self.0 <= -1000
+    }
+}
+
 impl fmt::Display for OsErr {
     fn fmt(&self, f: &mut fmt::Formatter) -> fmt::Result {
         write!(f, "OSErr {}", self.0)
@@ -82,7 +89,7 @@ impl Zone<'_> {
     pub fn sleep_wrote(mut self, ranges: &mut [MhWritten]) -> Result<usize> {
         let mut gone = MhMemory { start: ptr::null_mut(), length: 0, here: false };
         let mut written = 0;
-        let asleep = self.1.as_mut().ok_or(OsErr(sys::MH_PARAM_ERR))?;
+        let asleep = self.1.as_mut().ok_or(OsErr(sys::MH_NOT_THERE))?;
         let (at, count) = (ranges.as_mut_ptr(), ranges.len());
         told(unsafe { sys::mh_sleep_wrote(&mut self.0, asleep, &mut gone, at, count, &mut written) })?;
         Ok(written)
@@ -121,7 +128,7 @@ impl Drop for Zone<'_> {
 pub struct Asleep(MhAsleep);
 
 fn size_of_bytes(bytes: &[u8]) -> Result<u32> {
-    u32::try_from(bytes.len()).map_err(|_| OsErr(sys::MH_PARAM_ERR))
+    u32::try_from(bytes.len()).map_err(|_| OsErr(sys::MH_BAD_NUMBER))
 }
 
 fn handed_over(bytes: &mut [u8]) -> MhMemory {

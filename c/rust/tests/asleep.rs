@@ -1,6 +1,6 @@
 //! A zone that wakes in bytes of the caller, which reads and writes them while it sleeps.
 use macheap::sys::{MhFault, MhWritten};
-use macheap::{Asleep, OsErr, sys};
+use macheap::{Asleep, OsErr, Zone, sys};
 
 const BASE: u32 = 0x10_0000;
 
@@ -101,4 +101,15 @@ fn what_is_lent_stays_lent_while_the_zone_sleeps() {
     let mut zone = asleep.wake(&mut ram).unwrap();
     zone.give_back(handle).unwrap();
     assert_eq!(zone.hunlock(handle), Ok(()));
+}
+
+#[test]
+fn mistakes_of_the_host_have_codes_of_their_own() {
+    let zone = Zone::new(BASE, 4096, 4096, 24).unwrap();
+    let refused = zone.sleep_wrote(&mut [MhWritten::default(); 4]).unwrap_err();
+    assert_eq!(refused, OsErr(sys::MH_NOT_THERE));
+    assert!(refused.is_hosts());
+    assert_eq!(Asleep::new(&mut [0; 4092], BASE, 4096, 24).err(), Some(OsErr(sys::MH_BAD_NUMBER)));
+    let mut zone = Zone::new(BASE, 4096, 4096, 24).unwrap();
+    assert_eq!(zone.new_handle(8_388_609).map_err(OsErr::is_hosts), Err(false));
 }

@@ -120,7 +120,7 @@ fn resources_are_in_several_zones() {
     let (mut one, mut files) = (zone(), Files::new().unwrap());
     let mut other = Zone::new(0x40000, 4096, 4096, 24).unwrap();
     files.open(&mut one, &fork).unwrap();
-    assert_eq!(files.other_zone(), Err(OsErr(sys::MH_PARAM_ERR)));
+    assert_eq!(files.other_zone(), Err(OsErr(sys::MH_NONE_SUCH)));
     let text = files.get_resource(&mut other, TEXT, 128).unwrap();
     assert_eq!(files.get_resource(&mut one, TEXT, 128), Err(OsErr(sys::MR_OTHER_ZONE)));
     assert_eq!(files.other_zone(), Ok(text));

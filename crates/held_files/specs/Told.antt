@@ -1,6 +1,6 @@
 -- What C gets from a call of the Resource Manager.
 use Rattle.std.specs.Int.{from_be_bytes, w32}
-use Rattle.std.specs.Prelude.{◌≡◌, ◌⊎◌, ◌==◌, ◌++◌, ℕ, ℤ, pos, nat_lt, if◌then◌else◌, List, [], ◌∷◌, drop, length, Option, Some, None, Ok, MatchBool, option_and_then, option_map, unwrap_or}
+use Rattle.std.specs.Prelude.{◌≡◌, ◌⊎◌, ◌==◌, ◌++◌, ℕ, ℤ, pos, nat_lt, if◌then◌else◌, List, [], ◌∷◌, drop, length, Option, Some, None, Result, Ok, Err, MatchBool, option_map, unwrap_or}
 use Rattle.held_files.specs.Forks.{ForksState, fork_of_number, free_number, HasFork, HasNoForks, without_handles}
 use Rattle.held_files.specs.Elsewhere.{IsFirstLoaded, elsewhere, needing, sought_elsewhere}
 use Rattle.held_files.specs.Making.{MakesResource, SeeksOnForks}
@@ -8,7 +8,10 @@ use Rattle.held_files.specs.declared.elsewhere.OverZone.{OverZone}
 use Rattle.held_files.specs.declared.elsewhere.OverZone.TheVariants.{Other, This}
 use Rattle.fork_bytes.specs.Over.{IsOver}
 use Rattle.held_zone.specs.State.{State, with_no_asks}
-use Rattle.held_zone.specs.Told.{Makes, code_told, no_zone, number_told}
+use Rattle.held_zone.specs.declared.host_err.HostErr.TheVariants.{BadNumber, InUse, NoneSuch, NotThere, OtherZone, TooBig}
+use Rattle.held_zone.specs.declared.host_err.HostErr.{HostErr}
+use Rattle.held_zone.specs.HostCodes.{Shows, host_code, such}
+use Rattle.held_zone.specs.Told.{Makes, code_told, number_told}
 use Rattle.mac_base.specs.Codes.{minus}
 use Rattle.mac_base.specs.Outcomes.{Outcome}
 use Rattle.mac_base.specs.Released.{disposed_in, disposed_of}
@@ -24,7 +27,7 @@ use Rattle.mac_base.specs.declared.resource_call.ResourceCall.{ResourceCall}
 
 -- the code of a call: that it has to be made over another zone is a code of the host's
 abbrev pub over_code : OverZone Outcome → ℤ
-over_code Other = minus 1004
+over_code Other = host_code OtherZone
 over_code (This outcome) = code_told outcome
 
 -- the number of a call, where another one was, which stays where it gives none
@@ -100,10 +103,10 @@ over_info before Other = before
 over_info before (This outcome) = info_told before outcome
 
 -- The call is made, and C gets this code and what the resource is called, where it has room for 255 bytes of a name;
--- else the answer is paramErr, and no call is made.
+-- else no call is made.
 abbrev pub InfoTold : Option State → Option ForksState → ℕ → ℤ → MrInfo × List ℕ → MrInfo × List ℕ → Option State → Option ForksState → Type 0
 InfoTold old old_files h code before info new new_files = MatchBool (nat_lt (length before.1) 255)
-    ((code ≡ minus 50) × (info ≡ before) × (new ≡ old) × (new_files ≡ old_files))
+    ((code ≡ host_code BadNumber) × (info ≡ before) × (new ≡ old) × (new_files ≡ old_files))
     ((end : OverZone Outcome) × (code ≡ over_code end) × (info ≡ over_info before end) × ResourceCalled old old_files (GetResInfo h) end new new_files)
 
 -- The file of a number, of which none is open, gets this fork and is opened, and C gets its number. The host has no
@@ -121,23 +124,23 @@ abbrev pub OpensFork : Option ℕ → State → ForksState → Disk → ℤ → 
 OpensFork None old old_files fork code before number new new_files = (code ≡ minus 42) × (number ≡ before) × (new ≡ old) × (new_files ≡ old_files)
 OpensFork (Some k) old old_files fork code before number new new_files =
     ((code ≡ minus 108) × (number ≡ before) × (new ≡ old) × (new_files ≡ old_files))
-    ⊎ (IsOver fork × (code ≡ minus 1001) × (number ≡ before) × (new ≡ old) × (new_files ≡ old_files))
+    ⊎ (IsOver fork × (code ≡ host_code TooBig) × (number ≡ before) × (new ≡ old) × (new_files ≡ old_files))
     ⊎ ((¬ IsOver fork) × GivesFork k old old_files fork code before number new new_files)
 
 -- C opens a file on a copy of a fork.
 abbrev pub OpenTold : Option State → Option ForksState → Disk → ℤ → ℕ → ℕ → Option State → Option ForksState → Type 0
 OpenTold (Some old) (Some old_files) fork code before number (Some new) (Some new_files) =
     OpensFork (free_number old_files.files) old old_files fork code before number new new_files
-OpenTold (Some old) None fork code before number new new_files = (code ≡ no_zone) × (number ≡ before) × (new ≡ Some old) × (new_files ≡ None)
-OpenTold None old_files fork code before number new new_files = (code ≡ no_zone) × (number ≡ before) × (new ≡ None) × (new_files ≡ old_files)
+OpenTold (Some old) None fork code before number new new_files = (code ≡ host_code NotThere) × (number ≡ before) × (new ≡ Some old) × (new_files ≡ None)
+OpenTold None old_files fork code before number new new_files = (code ≡ host_code NotThere) × (number ≡ before) × (new ≡ None) × (new_files ≡ old_files)
 OpenTold _ _ fork code before number _ _ = ⊥
 
 -- Rows forget the handles of which answers to the zone's last call disposed.
 abbrev pub ForgetTold : Option State → Option ForksState → ℤ → Option State → Option ForksState → Type 0
 ForgetTold (Some old) (Some old_files) code new new_files =
     (code ≡ pos 0) × (new ≡ Some old) × (new_files ≡ Some (without_handles (disposed_in old.asks) old_files))
-ForgetTold (Some old) None code new new_files = (code ≡ no_zone) × (new ≡ Some old) × (new_files ≡ None)
-ForgetTold None old_files code new new_files = (code ≡ no_zone) × (new ≡ None) × (new_files ≡ old_files)
+ForgetTold (Some old) None code new new_files = (code ≡ host_code NotThere) × (new ≡ Some old) × (new_files ≡ None)
+ForgetTold None old_files code new new_files = (code ≡ host_code NotThere) × (new ≡ None) × (new_files ≡ old_files)
 
 -- A handle is disposed of, and rows forget it, as well as those of which answers disposed.
 abbrev pub Disposes : State → ForksState → ℕ → Outcome → State → ForksState → Type 0
@@ -148,8 +151,8 @@ Disposes old old_files h outcome new new_files =
 abbrev pub DisposeTold : Option State → Option ForksState → ℕ → ℤ → Option State → Option ForksState → Type 0
 DisposeTold (Some old) (Some old_files) h code (Some new) (Some new_files) =
     (outcome : Outcome) × (code ≡ code_told (Some outcome)) × Disposes old old_files h outcome new new_files
-DisposeTold (Some old) None h code new new_files = (code ≡ no_zone) × (new ≡ Some old) × (new_files ≡ None)
-DisposeTold None old_files h code new new_files = (code ≡ no_zone) × (new ≡ None) × (new_files ≡ old_files)
+DisposeTold (Some old) None h code new new_files = (code ≡ host_code NotThere) × (new ≡ Some old) × (new_files ≡ None)
+DisposeTold None old_files h code new new_files = (code ≡ host_code NotThere) × (new ≡ None) × (new_files ≡ old_files)
 DisposeTold _ _ h code _ _ = ⊥
 
 -- the name that C gives: none where it has no bytes
@@ -158,38 +161,37 @@ name_given [] = None
 name_given (x ∷ xs) = Some (x ∷ xs)
 
 -- how many bytes the fork of a number has
-abbrev pub fork_size : ℕ → ForksState → Option ℕ
-fork_size k files = option_map length (fork_of_number k files)
+abbrev pub fork_size : ℕ → ForksState → Result ℕ HostErr
+fork_size k files = such (option_map length (fork_of_number k files))
+
+-- a fork, where there is one, and it has so many bytes
+abbrev pub sized : ℕ → Option Disk → Result Disk HostErr
+sized count None = Err NoneSuch
+sized count (Some fork) = if length fork == count then Ok fork else Err BadNumber
 
 -- the fork of a number, if it has so many bytes
-abbrev pub fork_sized : ℕ → ℕ → ForksState → Option Disk
-fork_sized k count files = option_and_then (λ (fork : Disk). if length fork == count then Some fork else None) (fork_of_number k files)
-
--- something is shown; where there is nothing, the answer is paramErr
-abbrev pub Shows : {A : Type 0} → Option A → ℤ → A → A → Type 0
-Shows (Some found) code before shown = (code ≡ pos 0) × (shown ≡ found)
-Shows None code before shown = (code ≡ minus 50) × (shown ≡ before)
+abbrev pub fork_sized : ℕ → ℕ → ForksState → Result Disk HostErr
+fork_sized k count files = sized count (fork_of_number k files)
 
 -- C is shown the first handle that a resource has in a zone. All stay.
 abbrev pub FirstLoadedTold : Option State → Option ForksState → ℤ → ℕ → ℕ → Option State → Option ForksState → Type 0
 FirstLoadedTold (Some old) (Some old_files) code before handle new new_files =
-    (found : Option ℕ) × IsFirstLoaded old.zone.shape old_files.files found × Shows found code before handle × (new ≡ Some old) × (new_files ≡ Some old_files)
-FirstLoadedTold (Some old) None code before handle new new_files = (code ≡ no_zone) × (handle ≡ before) × (new ≡ Some old) × (new_files ≡ None)
-FirstLoadedTold None old_files code before handle new new_files = (code ≡ no_zone) × (handle ≡ before) × (new ≡ None) × (new_files ≡ old_files)
+    (found : Option ℕ) × IsFirstLoaded old.zone.shape old_files.files found × Shows (such found) code before handle × (new ≡ Some old) × (new_files ≡ Some old_files)
+FirstLoadedTold (Some old) None code before handle new new_files = (code ≡ host_code NotThere) × (handle ≡ before) × (new ≡ Some old) × (new_files ≡ None)
+FirstLoadedTold None old_files code before handle new new_files = (code ≡ host_code NotThere) × (handle ≡ before) × (new ≡ None) × (new_files ≡ old_files)
 
 -- C is shown something of files, which stay.
-abbrev pub ForkTold : {A : Type 0} → (ForksState → Option A) → Option ForksState → ℤ → A → A → Option ForksState → Type 0
-ForkTold of None code before shown new = (code ≡ no_zone) × (shown ≡ before) × (new ≡ None)
+abbrev pub ForkTold : {A : Type 0} → (ForksState → Result A HostErr) → Option ForksState → ℤ → A → A → Option ForksState → Type 0
+ForkTold of None code before shown new = (code ≡ host_code NotThere) × (shown ≡ before) × (new ≡ None)
 ForkTold of (Some old) code before shown new = Shows (of old) code before shown × (new ≡ Some old)
 
--- Files begin, unless the host has no memory for them (memFullErr). Where there are files, the answer is paramErr,
--- and they stay.
+-- Files begin, unless the host has no memory for them (memFullErr). Where there are files, they stay.
 abbrev pub BeginTold : Option ForksState → ℤ → Option ForksState → Type 0
 BeginTold None code None = code ≡ minus 108
 BeginTold None code (Some new) = (code ≡ pos 0) × HasNoForks new
-BeginTold (Some old) code new = (code ≡ minus 50) × (new ≡ Some old)
+BeginTold (Some old) code new = (code ≡ host_code InUse) × (new ≡ Some old)
 
 -- Files end, where there are some.
 abbrev pub EndTold : Option ForksState → ℤ → Option ForksState → Type 0
-EndTold None code new = (code ≡ no_zone) × (new ≡ None)
+EndTold None code new = (code ≡ host_code NotThere) × (new ≡ None)
 EndTold (Some old) code new = (code ≡ pos 0) × (new ≡ None)

@@ -11,6 +11,7 @@ use fork_bytes::is_over;
 use fork_disk::MemDisk;
 use fork_disk::store::PlainStore;
 use held_calls::answers::{Carried, MOST_ASKS, MadeAsk};
+use held_zone::host_err::HostErr;
 use held_zone::session::Session;
 use held_zone::told;
 use mac_base::error::{HostFull, OsErr};
@@ -53,9 +54,6 @@ impl Drop for ForkFiles {
 
 /// tmfoErr: as many files are open as can be.
 const TOO_MANY_FILES: i16 = -42;
-
-/// The code of a fork that has more bytes or resources than macheap reads.
-const TOO_BIG: i16 = -1001;
 
 /// The handle of which a call of an answer disposed, where it was carried out.
 fn disposed_by(carried: &Carried) -> Option<Handle>
@@ -170,7 +168,7 @@ impl ForkFiles {
     }
 
     /// Gives a copy of a fork to the first number of which no file is open, and opens that file. Its number is written,
-    /// and the code returned: `TOO_BIG` exactly where the fork has more than macheap reads, if there is a number and the
+    /// and the code returned: TooBig exactly where the fork has more than macheap reads, if there is a number and the
     /// host has memory.
     pub fn open(
         &mut self,
@@ -188,7 +186,7 @@ impl ForkFiles {
             return OsErr::MemFullErr.code();
         };
         if over {
-            return TOO_BIG;
+            return HostErr::TooBig.code();
         }
         self.open_as(alloc, session, free, fork, number)
     }

@@ -1,18 +1,19 @@
 //! Resource files that C holds.
 
-ghost use Rattle.std.specs.Prelude.{◌≡◌, Option, Some, None, IfNone, IfSome, IsTrue};
+ghost use Rattle.std.specs.Prelude.{◌≡◌, Option, Some, None, IfNone, IfSome, IsTrue, MatchBool};
 ghost use Rattle.std.specs.Option.{option_map};
 ghost use Rattle.held_files.specs.Forks.{ForksState};
 ghost use Rattle.held_files.specs.Held.{LacksOne, is_there};
 
 use crate::elsewhere::OverZone;
 use crate::files::ForkFiles;
-use crate::told::{MrInfo, OTHER_ZONE, info, kind, over_number};
+use crate::told::{MrInfo, info, kind, over_number};
+use held_zone::host_err::HostErr;
 use held_zone::parked::Parked;
 use held_zone::session::Session;
-use held_zone::told::{self, NO_ZONE};
+use held_zone::told;
 use held_zone::zone::MhZone;
-use mac_base::error::{NO_ERR, OsErr};
+use mac_base::error::NO_ERR;
 use mac_base::handle::Handle;
 use mac_base::{Outcome, ResourceCall};
 use res_update::SeekingCall;
@@ -96,6 +97,13 @@ impl MrFiles {
     {
         let held = Held::none(at);
         MrFiles { live: false, held }
+    }
+
+    /// Whether there are files.
+    pub fn are_live(&self) -> bool
+        ensures { MatchBool result ((files : ForksState) × (self.now.held.files ≡ Some files)) (self.now.held.files ≡ None) }
+    {
+        self.live
     }
 
     /// The files, where there are some.
@@ -184,7 +192,7 @@ impl MrFiles {
         ensures { ResourceTold zone.old.held.session self.old.held.files call.now result zone.new.held.session self.new.held.files }
     {
         match self.call(alloc, zone, call) {
-            OverZone::Other => OTHER_ZONE,
+            OverZone::Other => HostErr::OtherZone.code(),
             OverZone::This(outcome) => told::code(&outcome),
         }
     }
@@ -244,12 +252,12 @@ impl MrFiles {
         ensures { ResourceToldKind zone.old.held.session self.old.held.files call.now result number.old number.new zone.new.held.session self.new.held.files }
     {
         match self.call(alloc, zone, call) {
-            OverZone::Other => OTHER_ZONE,
+            OverZone::Other => HostErr::OtherZone.code(),
             OverZone::This(outcome) => kind(&outcome, number),
         }
     }
 
-    /// GetResInfo: returns its code, and writes what the resource is called. paramErr where there is no room for 255
+    /// GetResInfo: returns its code, and writes what the resource is called. BadNumber where there is no room for 255
     /// bytes of a name.
     pub fn info(
         &mut self,
@@ -262,10 +270,10 @@ impl MrFiles {
         ensures { InfoTold zone.old.held.session self.old.held.files handle result (shown.old, name.old) (shown.new, name.new) zone.new.held.session self.new.held.files }
     {
         if name.len() < 255 {
-            return OsErr::ParamErr.code();
+            return HostErr::BadNumber.code();
         }
         match self.call(alloc, zone, &ResourceCall::GetResInfo(handle)) {
-            OverZone::Other => OTHER_ZONE,
+            OverZone::Other => HostErr::OtherZone.code(),
             OverZone::This(outcome) => info(&outcome, shown, name),
         }
     }
@@ -275,7 +283,7 @@ impl MrFiles {
         ensures { OpenTold zone.old.held.session self.old.held.files fork.now result number.old number.new zone.new.held.session self.new.held.files }
     {
         let Some((mut files, mut session)) = self.take_with(alloc, zone) else {
-            return NO_ZONE;
+            return HostErr::NotThere.code();
         };
         let code = files.open(alloc, &mut session, fork, number);
         self.put(files);
@@ -288,7 +296,7 @@ impl MrFiles {
         ensures { ForgetTold zone.old.held.session self.old.held.files result zone.new.held.session self.new.held.files }
     {
         let Some((mut files, session)) = self.take_with(alloc, zone) else {
-            return NO_ZONE;
+            return HostErr::NotThere.code();
         };
         files.forget_asked(session.asks());
         self.put(files);
@@ -296,12 +304,12 @@ impl MrFiles {
         NO_ERR
     }
 
-    /// Writes the first handle that a resource has in a zone. paramErr where there is none.
+    /// Writes the first handle that a resource has in a zone. NoneSuch where there is none.
     pub fn first_loaded(&mut self, alloc: Global, zone: &mut MhZone, handle: &mut u32) -> i16
         ensures { FirstLoadedTold zone.old.held.session self.old.held.files result handle.old handle.new zone.new.held.session self.new.held.files }
     {
         let Some((files, session)) = self.take_with(alloc, zone) else {
-            return NO_ZONE;
+            return HostErr::NotThere.code();
         };
         let found = files.first_loaded(session.memory.linked().spec());
         self.put(files);
@@ -311,7 +319,7 @@ impl MrFiles {
                 *handle = first;
                 NO_ERR
             }
-            None => OsErr::ParamErr.code(),
+            None => HostErr::NoneSuch.code(),
         }
     }
 
@@ -320,7 +328,7 @@ impl MrFiles {
         ensures { DisposeTold zone.old.held.session self.old.held.files handle result zone.new.held.session self.new.held.files }
     {
         let Some((mut files, mut session)) = self.take_with(alloc, zone) else {
-            return NO_ZONE;
+            return HostErr::NotThere.code();
         };
         let outcome = files.dispose(&mut session, handle);
         self.put(files);
@@ -338,7 +346,7 @@ impl MrFiles {
         ensures { SetInfoTold handle id (option_copied name.entry) self.old.held.files result self.new.held.files }
     {
         let Some(mut files) = self.take(alloc) else {
-            return NO_ZONE;
+            return HostErr::NotThere.code();
         };
         let set = files.set_info(alloc, handle, id, name);
         self.put(files);

@@ -5,6 +5,7 @@ ghost use Rattle.held_zone.specs.Told.{code_told};
 ghost use Rattle.held_files.specs.Told.{info_told, kind_told, over_code, over_number, shown_info};
 
 use crate::elsewhere::OverZone;
+use held_zone::host_err::HostErr;
 use held_zone::told;
 use mac_base::{Outcome, ResourceInfo, Results};
 
@@ -17,16 +18,13 @@ pub struct MrInfo {
     pub name_length: u32,
 }
 
-/// A call has to be made over another zone: a host's code.
-pub const OTHER_ZONE: i16 = -1004;
-
 /// The code of a call over a zone, whose number is written where it gives one.
 pub(crate) fn over_number(end: &OverZone<Outcome>, number: &mut u32) -> i16
     ensures code { result ≡ over_code end.now }
     ensures number { number.new ≡ over_number number.old end.now }
 {
     match end {
-        OverZone::Other => OTHER_ZONE,
+        OverZone::Other => HostErr::OtherZone.code(),
         OverZone::This(outcome) => told::number(outcome, number),
     }
 }

@@ -4,6 +4,7 @@ mod FewerFull
 pub mod Filled
 pub mod Guests
 pub mod Headers
+mod HostCodes
 pub mod InTurns
 pub mod Keeping
 pub mod NilFlags

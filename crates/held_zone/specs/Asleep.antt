@@ -1,8 +1,6 @@
 -- A zone that sleeps, and wakes in bytes of the host.
 use Rattle.std.specs.Prelude.{◌≡◌, ◌==◌, ◌≤◌, ℕ, Bool, true, ◌&&◌, if◌then◌else◌, not, List, [], ◌∷◌, length, map, filter, Option, Some, None, is_some, option_map, IsTrue, IsFalse}
 use Rattle.std.specs.List.{list_all, list_any}
-use Rattle.mac_base.specs.declared.error.OsErr.{OsErr}
-use Rattle.mac_base.specs.declared.error.OsErr.TheVariants.{ParamErr}
 use Rattle.mac_base.specs.HandleTable.{HandleTable, bytes_of, with_bytes}
 use Rattle.mac_base.specs.Heap.{Heap, with_table}
 use Rattle.mac_base.specs.Loans.{most_loans, owners, with_lent}
@@ -14,6 +12,8 @@ use Rattle.linked_zone.specs.Parts.{ContentsStay, OthersStay}
 use Rattle.linked_zone.specs.Structure.{DifferInContents, HasStructure, IsIn, SameFlags, shown}
 use Rattle.raw_region.specs.State.{State as Region}
 use Rattle.raw_region.specs.declared.host.HostBytes.{HostBytes}
+use Rattle.held_zone.specs.declared.host_err.HostErr.{HostErr}
+use Rattle.held_zone.specs.declared.host_err.HostErr.TheVariants.{NotThere}
 use Rattle.held_zone.specs.declared.waking.WhyAsleep.{WhyAsleep}
 use Rattle.held_zone.specs.declared.waking.WhyAsleep.TheVariants.{Damaged, HostFull, Unlocked}
 use Rattle.held_zone.specs.Fields.{fields_in, managed, managed_in}
@@ -169,6 +169,6 @@ pub record IsSettled (s : State) (given r : Region) : Type 0 where
   pub name : r.name ≡ given.name
   pub whole : r.lent ≡ []
 
--- a zone that isn't in bytes of the host doesn't fall asleep: paramErr
-abbrev pub sleep_refusal : State → Option OsErr
-sleep_refusal s = if is_some s.zone.memory.kept then None else Some ParamErr
+-- a zone that isn't in bytes of the host doesn't fall asleep: these aren't there
+abbrev pub sleep_refusal : State → Option HostErr
+sleep_refusal s = if is_some s.zone.memory.kept then None else Some NotThere

@@ -3,6 +3,7 @@ pub mod Attaching
 pub mod Checking
 pub mod Fields
 pub mod Held
+pub mod HostCodes
 pub mod InTurn
 pub mod KeptFlags
 pub mod NilFlags

@@ -1,13 +1,13 @@
 -- What belongs to a zone that C holds.
 use Rattle.std.specs.Prelude.{◌≡◌, if◌then◌else◌, nat_lt, ℕ, List, [], length, Option, Some, None, is_some, IsTrue}
-use Rattle.mac_base.specs.declared.error.OsErr.{OsErr}
-use Rattle.mac_base.specs.declared.error.OsErr.TheVariants.{ParamErr}
 use Rattle.mac_base.specs.Heap.{new_heap}
 use Rattle.mac_base.specs.ZoneSizes.{ZoneSizes, shape_of}
 use Rattle.mac_base.specs.ZoneState.{ZoneState}
 use Rattle.mac_base.specs.GrowZone.{Answer, Ask}
 use Rattle.mac_base.specs.LoanStep.{Loans}
 use Rattle.held_zone.specs.declared.fields.GuestFields.{GuestFields}
+use Rattle.held_zone.specs.declared.host_err.HostErr.{HostErr}
+use Rattle.held_zone.specs.declared.host_err.HostErr.TheVariants.{InUse}
 use Rattle.held_zone.specs.Fields.{new_fields}
 use Rattle.held_zone.specs.Purges.{Purges, no_purges}
 
@@ -31,9 +31,9 @@ WaitAsleep z waiting = IsTrue (is_some z.memory.kept) → waiting ≡ []
 abbrev pub with_no_asks : State → State
 with_no_asks s = record s { asks = [] }
 
--- sixteen answers may wait, and the next is refused by paramErr
-abbrev pub queue_refusal : State → Option OsErr
-queue_refusal s = if nat_lt (length s.left) 16 then None else Some ParamErr
+-- sixteen answers may wait, and the next is refused
+abbrev pub queue_refusal : State → Option HostErr
+queue_refusal s = if nat_lt (length s.left) 16 then None else Some InUse
 
 -- a new zone of these sizes: nothing is lent, no answer and no block waits, nothing was asked, no guest wrote in its
 -- header, it is in memory of its own, and no call is held or has purged

@@ -1,6 +1,6 @@
 -- What C gets from a call.
 use Rattle.std.specs.Prelude.{◌≡◌, ℕ, ℤ, pos, Bool, true, false, List, [], Result, Option, Some, None, Ok, Err, unwrap_or, IsTrue}
-use Rattle.mac_base.specs.Codes.{code_of, minus}
+use Rattle.mac_base.specs.Codes.{code_of}
 use Rattle.mac_base.specs.declared.error.OsErr.{OsErr}
 use Rattle.held_calls.specs.declared.window.Window.{Window}
 use Rattle.held_calls.specs.Holding.{IsWindow}
@@ -18,16 +18,14 @@ use Rattle.mac_base.specs.Outcomes.{Outcome}
 use Rattle.mem_calls.specs.Purges.{PurgesInTurn, before_call}
 use Rattle.held_zone.specs.declared.session.CallEnd.{CallEnd}
 use Rattle.held_zone.specs.declared.session.CallEnd.TheVariants.{Held, Ended}
+use Rattle.held_zone.specs.declared.host_err.HostErr.TheVariants.{NotThere, WouldPurge}
+use Rattle.held_zone.specs.HostCodes.{host_code}
 use Rattle.held_zone.specs.Purges.{purged_these, waits_for}
 use Rattle.held_zone.specs.State.{State, with_no_asks}
 
--- the code that C gets where there is no zone: paramErr
-abbrev pub no_zone : ℤ
-no_zone = minus 50
-
--- the code of an outcome, if there is a zone
+-- the code of an outcome; where there is no zone that is awake, one of the host's
 abbrev pub code_told : Option Outcome → ℤ
-code_told None = no_zone
+code_told None = host_code NotThere
 code_told (Some (Ok results)) = pos 0
 code_told (Some (Err code)) = code_of code
 
@@ -128,13 +126,9 @@ EndsCall None call (Ended None) None = Unit {0}
 EndsCall (Some old) call end (Some new) = EndsIn old call end new
 EndsCall _ call _ _ = ⊥
 
--- the code that C gets where a call is held: a host's code
-abbrev pub would_purge : ℤ
-would_purge = minus 1002
-
 -- the code of a call's end
 abbrev pub end_code : CallEnd → ℤ
-end_code Held = would_purge
+end_code Held = host_code WouldPurge
 end_code (Ended outcome) = code_told outcome
 
 -- and the number that it gives, over the one that was there
@@ -180,5 +174,5 @@ ShowsWindow (Some refusal) zone loans x code before window = (code ≡ code_of r
 -- C is shown the window on the bytes that it has of a block, unless it is refused as a Return of the block is. All
 -- stays but what was asked.
 abbrev pub WindowTold : Option State → ℕ → ℤ → Window → Window → Option State → Type 0
-WindowTold None block code before window new = (code ≡ no_zone) × (window ≡ before) × (new ≡ None)
+WindowTold None block code before window new = (code ≡ host_code NotThere) × (window ≡ before) × (new ≡ None)
 WindowTold (Some old) block code before window new = ShowsWindow (loan_refusal old.zone.shape old.zone.heap (Return block)) old.zone old.loans block code before window × (new ≡ Some (with_no_asks old))

@@ -4,6 +4,7 @@
 pub mod asleep;
 mod attaching;
 pub mod fields;
+pub mod host_err;
 mod lending_again;
 mod lent;
 pub mod memory;

@@ -3,6 +3,7 @@
 ghost use Rattle.std.specs.Prelude.{◌≡◌, []};
 
 use crate::fields::GuestFields;
+use crate::host_err::HostErr;
 use crate::lent;
 use crate::purges::{self, Purges};
 use arrayvec::ArrayVec;
@@ -179,14 +180,14 @@ impl Session {
         lending::window(&self.memory, &self.loans, block)
     }
 
-    /// Queues an answer after the others: nothing is asked then. Sixteen may wait.
-    pub fn queue(&mut self, answer: Answer) -> Result<(), OsErr>
+    /// Queues an answer after the others: nothing is asked then. Sixteen may wait: then the error is InUse.
+    pub fn queue(&mut self, answer: Answer) -> Result<(), HostErr>
         ensures queued { OnOk result (self.new ≡ record self.old { left = self.old.left ++ answer ∷ []; asks = [] }) }
         ensures refusal { result_err result ≡ queue_refusal self.old }
         ensures unchanged { OnErr result (self.new ≡ self.old) }
     {
         if self.answers.is_full() {
-            return Err(OsErr::ParamErr);
+            return Err(HostErr::InUse);
         }
         self.answers.push_within(answer);
         Ok(())

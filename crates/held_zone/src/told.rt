@@ -4,21 +4,16 @@ ghost use Rattle.std.specs.Prelude.{◌≡◌, Some};
 ghost use Rattle.mac_base.specs.Outcomes.{done_outcome};
 ghost use Rattle.held_zone.specs.Told.{code_told, number_in, number_told, numbers_in, numbers_told};
 
+use crate::host_err::HostErr;
 use mac_base::error::{NO_ERR, OsErr};
 use mac_base::{Outcome, Results};
-
-/// A call is held that would purge: a host's code.
-pub const WOULD_PURGE: i16 = -1002;
-
-/// There is no zone: paramErr.
-pub const NO_ZONE: i16 = -50;
 
 /// The code of an outcome, if there is a zone.
 pub fn code(outcome: &Option<Outcome>) -> i16
     ensures { result ≡ code_told outcome.now }
 {
     match outcome {
-        None => NO_ZONE,
+        None => HostErr::NotThere.code(),
         Some(Ok(_)) => NO_ERR,
         Some(Err(code)) => code.code(),
     }

@@ -1,11 +1,11 @@
 //! A session whose zone sleeps, and wakes in bytes of the host.
 
 use crate::fields::put_aside;
+use crate::host_err::HostErr;
 use crate::session::Session;
 use crate::{lending_again, nil_flags};
 use held_calls::lending;
 use linked_zone::{Agreement, LinkedZone, Written};
-use mac_base::error::OsErr;
 use mem_calls::{MOST_LOANS, MemoryManager};
 use raw_region::Region;
 use std::alloc::Global;
@@ -243,8 +243,8 @@ impl Session {
     /// Puts the zone to sleep, which is awake in bytes of the host, and gives these back. What is lent comes back
     /// first, and waits to be lent again. Where these bytes stay as they are, the zone wakes in them as it was: nothing
     /// refuses it, the same blocks are lent in the same order, and each has the bytes that C left in it. The guest's
-    /// fields are as the guest left them.
-    pub fn sleep(&mut self) -> Result<Region, OsErr>
+    /// fields are as the guest left them. NotThere is the error where it isn't in bytes of the host.
+    pub fn sleep(&mut self) -> Result<Region, HostErr>
         ensures given { IfOk result (λ region. IsGivenBack self.old region self.new) }
         ensures whole { IfOk result (λ region. region.lent ≡ []) }
         ensures long { IfOk result (λ region. length region.bytes ≡ self.old.zone.shape.limit) }
@@ -257,7 +257,7 @@ impl Session {
     }
 
     /// Puts the zone to sleep, and gives the region back as the Memory Manager has it.
-    fn sleep_managed(&mut self) -> Result<Region, OsErr>
+    fn sleep_managed(&mut self) -> Result<Region, HostErr>
         ensures region { IfOk result (λ region. IsInRegion (all_back self.old) region) }
         ensures asleep { IfOk result (λ region. FallsAsleep self.old region self.new) }
         ensures again { IfOk result (λ region. WakesAsBefore self.old region self.new) }
@@ -265,7 +265,7 @@ impl Session {
         ensures unchanged { OnErr result (self.new ≡ self.old) }
     {
         if !self.memory.linked().is_awake() {
-            return Err(OsErr::ParamErr);
+            return Err(HostErr::NotThere);
         }
         // The count of loans says that each is a pointer's or a locked handle's.
         prove!(self.memory.lent_count() as usize <= MOST_LOANS);

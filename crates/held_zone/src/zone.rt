@@ -5,6 +5,7 @@ ghost use Rattle.std.specs.Option.{option_map};
 ghost use Rattle.held_zone.specs.Held.{is_there};
 ghost use Rattle.held_zone.specs.State.{State};
 
+use crate::host_err::HostErr;
 use crate::parked::Parked;
 use crate::session::{CallEnd, Session};
 use crate::told;
@@ -155,7 +156,7 @@ impl MhZone {
         ensures { Told self.old.held.session call.now result self.new.held.session }
     {
         match self.call(alloc, call) {
-            CallEnd::Held => told::WOULD_PURGE,
+            CallEnd::Held => HostErr::WouldPurge.code(),
             CallEnd::Ended(outcome) => told::code(&outcome),
         }
     }
@@ -166,7 +167,7 @@ impl MhZone {
         ensures { ToldNumber self.old.held.session call.now result number.old number.new self.new.held.session }
     {
         match self.call(alloc, call) {
-            CallEnd::Held => told::WOULD_PURGE,
+            CallEnd::Held => HostErr::WouldPurge.code(),
             CallEnd::Ended(outcome) => told::number(&outcome, number),
         }
     }
@@ -183,7 +184,7 @@ impl MhZone {
         ensures { ToldNumbers self.old.held.session call.now result (first.old, second.old) (first.new, second.new) self.new.held.session }
     {
         match self.call(alloc, call) {
-            CallEnd::Held => told::WOULD_PURGE,
+            CallEnd::Held => HostErr::WouldPurge.code(),
             CallEnd::Ended(outcome) => told::numbers(&outcome, first, second),
         }
     }

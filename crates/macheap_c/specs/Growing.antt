@@ -2,7 +2,7 @@
 use Rattle.std.specs.Prelude.{◌≡◌, ℕ, ℤ, pos, ◌==◌, ◌++◌, if◌then◌else◌, nat_le, Bool, List, [], ◌∷◌, length, map, Option, Some, None, option_map}
 use Rattle.std.specs.List.{flat_map, list_all, slice_get}
 use Rattle.std.specs.Option.{option_map_or, option_to_list}
-use Rattle.mac_base.specs.Codes.{code_of, minus}
+use Rattle.mac_base.specs.Codes.{code_of}
 use Rattle.mac_base.specs.declared.error.OsErr.{OsErr}
 use Rattle.mac_base.specs.declared.releasing.ReleasingCall.{ReleasingCall}
 use Rattle.mac_base.specs.declared.releasing.ReleasingCall.TheVariants.{DisposesHandle, DisposesPtr, Empties}
@@ -11,8 +11,10 @@ use Rattle.macheap_c.specs.declared.growing.MhAnswer.{MhAnswer}
 use Rattle.macheap_c.specs.declared.growing.MhAsk.{MhAsk}
 use Rattle.macheap_c.specs.declared.growing.MhCarried.{MhCarried}
 use Rattle.macheap_c.specs.declared.growing.MhRelease.{MhRelease}
+use Rattle.held_zone.specs.declared.host_err.HostErr.{HostErr}
+use Rattle.held_zone.specs.declared.host_err.HostErr.TheVariants.{BadNumber, NotThere}
+use Rattle.held_zone.specs.HostCodes.{Shows, host_code, such}
 use Rattle.held_zone.specs.State.{State, queue_refusal}
-use Rattle.held_zone.specs.Told.{no_zone}
 
 -- whether a place of an answer is of a known kind: no call is 0, and there are three kinds of calls
 abbrev pub is_known : MhRelease → Bool
@@ -34,18 +36,18 @@ abbrev pub answer_of : MhAnswer → Option Answer
 answer_of a = if list_all is_known (places_of a) then Some (record { calls = flat_map option_to_list (map release_of (places_of a)); value = a.value }) else None
 
 -- the answer waits after the others, and nothing was asked, unless it is refused
-abbrev pub QueuedUnless : Option OsErr → State → Answer → ℤ → Option State → Type 0
+abbrev pub QueuedUnless : Option HostErr → State → Answer → ℤ → Option State → Type 0
 QueuedUnless None old answer code new = (code ≡ pos 0) × (new ≡ Some (record old { left = old.left ++ answer ∷ []; asks = [] }))
-QueuedUnless (Some refusal) old answer code new = (code ≡ code_of refusal) × (new ≡ Some old)
+QueuedUnless (Some refusal) old answer code new = (code ≡ host_code refusal) × (new ≡ Some old)
 
--- the answer waits; where it is none, it is refused by paramErr
+-- the answer waits; where it is none, it is refused
 abbrev pub IsQueued : State → Option Answer → ℤ → Option State → Type 0
 IsQueued old (Some answer) code new = QueuedUnless (queue_refusal old) old answer code new
-IsQueued old None code new = (code ≡ minus 50) × (new ≡ Some old)
+IsQueued old None code new = (code ≡ host_code BadNumber) × (new ≡ Some old)
 
 -- C queues an answer.
 abbrev pub AnswerTold : Option State → MhAnswer → ℤ → Option State → Type 0
-AnswerTold None answer code new = (code ≡ no_zone) × (new ≡ None)
+AnswerTold None answer code new = (code ≡ host_code NotThere) × (new ≡ None)
 AnswerTold (Some old) answer code new = IsQueued old (answer_of answer) code new
 
 -- an ask as C is shown it: what was needed, whether it was answered and by which value, and how many calls were carried
@@ -69,15 +71,10 @@ operand_of (Empties h) = h
 abbrev pub shown_carried : ReleasingCall × Option OsErr → MhCarried
 shown_carried c = record { kind = kind_of c.0; operand = operand_of c.0; code = option_map_or code_of c.1 (pos 0) }
 
--- something is shown; where there is nothing, the answer is paramErr
-abbrev pub Shows : {A : Type 0} → Option A → ℤ → A → A → Type 0
-Shows (Some found) code before shown = (code ≡ pos 0) × (shown ≡ found)
-Shows None code before shown = (code ≡ minus 50) × (shown ≡ before)
-
--- C is shown something of a state, which stays.
+-- C is shown something of a state, where there is such a thing. The state stays.
 abbrev pub IsShown : {A : Type 0} → (State → Option A) → Option State → ℤ → A → A → Option State → Type 0
-IsShown of None code before shown new = (code ≡ no_zone) × (shown ≡ before) × (new ≡ None)
-IsShown of (Some old) code before shown new = Shows (of old) code before shown × (new ≡ Some old)
+IsShown of None code before shown new = (code ≡ host_code NotThere) × (shown ≡ before) × (new ≡ None)
+IsShown of (Some old) code before shown new = Shows (such (of old)) code before shown × (new ≡ Some old)
 
 -- how often the last call asked
 abbrev pub asks_made : State → Option ℕ

@@ -2,12 +2,14 @@
 use Rattle.std.specs.Prelude.{◌≡◌, ◌⊎◌, ℤ, pos, Bool, true, false, ◌==◌, length, List, Option, Some, None, ⊤}
 use Rattle.zone_records.specs.declared.structure.Written.{Written}
 use Rattle.linked_zone.specs.Written.{DifferIn}
-use Rattle.mac_base.specs.Codes.{code_of, minus}
-use Rattle.mac_base.specs.declared.error.OsErr.{OsErr}
+use Rattle.mac_base.specs.Codes.{minus}
 use Rattle.mac_base.specs.ZoneSizes.{ZoneSizes}
 use Rattle.raw_region.specs.State.{State as Region}
 use Rattle.held_zone.specs.Asleep.{anew, IsAwakeIn, IsGivenBack, IsSettled, SleepsOn, sleep_refusal}
 use Rattle.held_zone.specs.Fields.{managed}
+use Rattle.held_zone.specs.declared.host_err.HostErr.{HostErr}
+use Rattle.held_zone.specs.declared.host_err.HostErr.TheVariants.{BadNumber, InUse, NotThere}
+use Rattle.held_zone.specs.HostCodes.{host_code}
 use Rattle.held_zone.specs.declared.waking.WhyAsleep.{WhyAsleep}
 use Rattle.held_zone.specs.declared.waking.WhyAsleep.TheVariants.{Damaged, HostFull, Unlocked}
 use Rattle.held_zone.specs.State.{State, IsNew}
@@ -23,9 +25,9 @@ code_asleep Damaged = damaged
 code_asleep Unlocked = minus 117
 code_asleep HostFull = minus 108
 
--- paramErr, and C has the zone that was awake, the one that slept, and the bytes that were there
-abbrev pub Refused : Option State → Option State → Option Region → ℤ → Option State → Option State → Option Region → Type 0
-Refused zone asleep memory code new_zone new_asleep new_memory = (code ≡ minus 50) × (new_zone ≡ zone) × (new_asleep ≡ asleep) × (new_memory ≡ memory)
+-- the host's call is refused: C has the zone that was awake, the one that slept, and the bytes that were there
+abbrev pub Refused : HostErr → Option State → Option State → Option Region → ℤ → Option State → Option State → Option Region → Type 0
+Refused refusal zone asleep memory code new_zone new_asleep new_memory = (code ≡ host_code refusal) × (new_zone ≡ zone) × (new_asleep ≡ asleep) × (new_memory ≡ memory)
 
 -- a zone wakes in bytes that have its structure, whatever the guest's fields and flag bits in empty handles' master
 -- pointers say, with what is lent, and the bytes are gone then; or it sleeps on, and they are as they were
@@ -37,12 +39,14 @@ WakesIn old region code zone asleep memory =
 -- bytes that aren't as many as the zone's limit are refused
 abbrev pub WakesWhere : Bool → State → Region → ℤ → Option State → Option State → Option Region → Type 0
 WakesWhere true old region code zone asleep memory = WakesIn old region code zone asleep memory
-WakesWhere false old region code zone asleep memory = Refused None (Some old) (Some region) code zone asleep memory
+WakesWhere false old region code zone asleep memory = Refused BadNumber None (Some old) (Some region) code zone asleep memory
 
 -- A zone wakes where none is awake, one sleeps, and there are bytes for it.
 abbrev pub IsWoken : Option State → Option State → Option Region → ℤ → Option State → Option State → Option Region → Type 0
 IsWoken None (Some old) (Some region) code zone asleep memory = WakesWhere (length region.bytes == old.zone.shape.limit) old region code zone asleep memory
-IsWoken old_zone old_asleep old_memory code zone asleep memory = Refused old_zone old_asleep old_memory code zone asleep memory
+IsWoken (Some awake) old_asleep old_memory code zone asleep memory = Refused InUse (Some awake) old_asleep old_memory code zone asleep memory
+IsWoken None None old_memory code zone asleep memory = Refused NotThere None None old_memory code zone asleep memory
+IsWoken None (Some old) None code zone asleep memory = Refused NotThere None (Some old) None code zone asleep memory
 
 -- What the host promises of a zone that sleeps, where bytes are there for it, as many as its limit: but for the guest's
 -- fields, they differ only in these ranges from bytes with its structure and its flags.
@@ -57,14 +61,16 @@ SleepsOutOf old (Some new) (Some region) = (r : Region) × (region ≡ anew r) �
 SleepsOutOf old _ _ = ⊥
 
 -- a zone falls asleep unless it is refused: then it is awake as before
-abbrev pub SleepsUnless : Option OsErr → State → ℤ → Option State → Option State → Option Region → Type 0
+abbrev pub SleepsUnless : Option HostErr → State → ℤ → Option State → Option State → Option Region → Type 0
 SleepsUnless None old code zone asleep memory = (code ≡ pos 0) × (zone ≡ None) × SleepsOutOf old asleep memory
-SleepsUnless (Some refusal) old code zone asleep memory = (code ≡ code_of refusal) × (zone ≡ Some old) × (asleep ≡ None) × (memory ≡ None)
+SleepsUnless (Some refusal) old code zone asleep memory = (code ≡ host_code refusal) × (zone ≡ Some old) × (asleep ≡ None) × (memory ≡ None)
 
 -- A zone that is awake falls asleep where none sleeps, and where the bytes that C has are gone.
 abbrev pub IsPutToSleep : Option State → Option State → Option Region → ℤ → Option State → Option State → Option Region → Type 0
 IsPutToSleep (Some old) None None code zone asleep memory = SleepsUnless (sleep_refusal old) old code zone asleep memory
-IsPutToSleep old_zone old_asleep old_memory code zone asleep memory = Refused old_zone old_asleep old_memory code zone asleep memory
+IsPutToSleep old_zone (Some other) old_memory code zone asleep memory = Refused InUse old_zone (Some other) old_memory code zone asleep memory
+IsPutToSleep old_zone None (Some region) code zone asleep memory = Refused InUse old_zone None (Some region) code zone asleep memory
+IsPutToSleep None None None code zone asleep memory = Refused NotThere None None None code zone asleep memory
 
 -- there is a new zone of these sizes, asleep, and the bytes have its structure; or none, since the host has no memory
 -- (memFullErr)
@@ -76,9 +82,11 @@ BeginsIn sizes region code (Some new) None = ⊥
 -- bytes that aren't as many as the limit are refused
 abbrev pub BeginsWhere : Bool → ZoneSizes → Region → ℤ → Option State → Option Region → Type 0
 BeginsWhere true sizes region code asleep memory = BeginsIn sizes region code asleep memory
-BeginsWhere false sizes region code asleep memory = (code ≡ minus 50) × (asleep ≡ None) × (memory ≡ Some region)
+BeginsWhere false sizes region code asleep memory = (code ≡ host_code BadNumber) × (asleep ≡ None) × (memory ≡ Some region)
 
--- A zone is made asleep where none sleeps, in bytes that are there. Else the answer is paramErr, and all stays.
+-- A zone is made asleep where none sleeps, of sizes that there may be, in bytes that are there. Else all stays.
 abbrev pub IsMadeAt : Option State → Option ZoneSizes → Option Region → ℤ → Option State → Option Region → Type 0
 IsMadeAt None (Some sizes) (Some region) code asleep memory = BeginsWhere (length region.bytes == sizes.limit) sizes region code asleep memory
-IsMadeAt old sizes region code asleep memory = (code ≡ minus 50) × (asleep ≡ old) × (memory ≡ region)
+IsMadeAt (Some old) sizes region code asleep memory = (code ≡ host_code InUse) × (asleep ≡ Some old) × (memory ≡ region)
+IsMadeAt None None region code asleep memory = (code ≡ host_code BadNumber) × (asleep ≡ None) × (memory ≡ region)
+IsMadeAt None (Some sizes) None code asleep memory = (code ≡ host_code NotThere) × (asleep ≡ None) × (memory ≡ None)

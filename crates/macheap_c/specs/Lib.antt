@@ -9,5 +9,6 @@ pub mod Wrote
 pub mod Partial
 pub mod Look
 pub mod Purges
+pub mod Refusals
 pub mod SavedState
 pub mod Zones

@@ -5,8 +5,9 @@ use Rattle.mac_base.specs.declared.block.HeadKind.{HeadKind}
 use Rattle.mac_base.specs.declared.block.HeadKind.TheVariants.{Bits24, Bits32}
 use Rattle.mac_base.specs.declared.zone_spec.BadSpec.{BadSpec}
 use Rattle.mac_base.specs.ZoneSizes.{ZoneSizes, first_large_fault}
+use Rattle.held_zone.specs.declared.host_err.HostErr.TheVariants.{BadNumber, InUse, NotThere}
+use Rattle.held_zone.specs.HostCodes.{host_code}
 use Rattle.held_zone.specs.State.{State, IsNew}
-use Rattle.held_zone.specs.Told.{no_zone}
 
 -- the blocks of a mode: it is 24 or 32
 abbrev pub heads_of : ℕ → Option HeadKind
@@ -37,19 +38,18 @@ own_sizes_of mode base size limit = large_sizes_of mode base (whole size) (whole
 abbrev pub sizes_of : ℕ → ℕ → ℕ → ℕ → Option ZoneSizes
 sizes_of mode base size limit = if nat_le limit 0x10_0000 && nat_le (base + limit) 0x100_0000 then own_sizes_of mode base size limit else None
 
--- There is a new zone of these sizes; or none, since there are no such zones (paramErr), or the host has no memory
--- (memFullErr).
+-- There is a new zone of these sizes; or none, since there are no such zones, or the host has no memory (memFullErr).
 abbrev pub Begins : Option ZoneSizes → ℤ → Option State → Type 0
-Begins None code new = (code ≡ minus 50) × (new ≡ None)
+Begins None code new = (code ≡ host_code BadNumber) × (new ≡ None)
 Begins (Some sizes) code None = code ≡ minus 108
 Begins (Some sizes) code (Some new) = (code ≡ pos 0) × IsNew sizes new
 
--- A zone is made where there is none. Where there is one, the answer is paramErr, and it stays.
+-- A zone is made where there is none. Where there is one, it stays.
 abbrev pub IsMade : Option State → Option ZoneSizes → ℤ → Option State → Type 0
 IsMade None sizes code new = Begins sizes code new
-IsMade (Some old) sizes code new = (code ≡ minus 50) × (new ≡ Some old)
+IsMade (Some old) sizes code new = (code ≡ host_code InUse) × (new ≡ Some old)
 
 -- The zone ends, where there is one, with what is lent.
 abbrev pub Ends : Option State → ℤ → Option State → Type 0
-Ends None code new = (code ≡ no_zone) × (new ≡ None)
+Ends None code new = (code ≡ host_code NotThere) × (new ≡ None)
 Ends (Some old) code new = (code ≡ pos 0) × (new ≡ None)

@@ -1,8 +1,9 @@
 -- What C is shown of a zone that anyone made.
 use Rattle.std.specs.Prelude.{◌≡◌, ℕ, ℤ, pos, List, length, map, Option, Some, None}
-use Rattle.mac_base.specs.Codes.{minus}
 use Rattle.mac_base.specs.declared.block.Block.{Block}
 use Rattle.mac_base.specs.declared.block.HeadKind.{HeadKind}
+use Rattle.held_zone.specs.declared.host_err.HostErr.TheVariants.{BadNumber}
+use Rattle.held_zone.specs.HostCodes.{host_code}
 use Rattle.zone_look.specs.declared.fault.Fault.{Fault}
 use Rattle.zone_look.specs.declared.looking.Found.{Found}
 use Rattle.zone_look.specs.Look.{IsLook, put_in}
@@ -28,9 +29,9 @@ pub record Room : Type 0 where
   pub wrong : MhWrong
 
 -- C is shown what is found in the memory from a zone's start on: the blocks for which there are rows, and how many there
--- are. It is paramErr where there is no such mode, and all stays.
+-- are. Where there is no such mode, all stays.
 abbrev pub IsLooked : Option HeadKind → ℕ → List ℕ → ℤ → Room → Room → Type 0
-IsLooked None base bytes code old new = (code ≡ minus 50) × (new ≡ old)
+IsLooked None base bytes code old new = (code ≡ host_code BadNumber) × (new ≡ old)
 IsLooked (Some heads) base bytes code old new = (found : Found) × (blocks : List Block)
     × IsLook (record { heads = heads; base = base; bytes = bytes }) found blocks
     × (new.rows ≡ put_in old.rows (map shown_block blocks)) × (new.count ≡ length blocks) × ShowsWrong found.fault code old.wrong new.wrong

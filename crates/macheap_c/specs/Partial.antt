@@ -5,18 +5,19 @@ use Rattle.held_files.specs.Partial.{PartCalled}
 use Rattle.held_files.specs.declared.elsewhere.OverZone.{OverZone}
 use Rattle.held_files.specs.declared.elsewhere.OverZone.TheVariants.{Other, This}
 use Rattle.held_files.specs.Patching.{PatchCalled}
+use Rattle.held_zone.specs.declared.host_err.HostErr.TheVariants.{NotThere, OtherZone}
+use Rattle.held_zone.specs.HostCodes.{host_code}
 use Rattle.held_zone.specs.State.{State}
-use Rattle.held_zone.specs.Told.{no_zone}
 use Rattle.mac_base.specs.Codes.{code_of, minus}
 use Rattle.res_update.specs.declared.partial_end.PartialEnd.{PartialEnd}
 use Rattle.res_update.specs.declared.partial_end.PartialEnd.TheVariants.{Done, InMemory, OutOfBounds, Refused}
 use Rattle.res_update.specs.declared.patching_call.PatchingCall.{PatchingCall}
 
--- the code of its end: resourceInMemory, inputOutOfBounds and another zone have their own; and where there are no zone or
--- no files, paramErr
+-- the code of its end: resourceInMemory and inputOutOfBounds have their own, and so has another zone, and a zone or files
+-- that aren't there
 abbrev pub part_code : OverZone PartialEnd → ℤ
-part_code Other = minus 1004
-part_code (This None) = no_zone
+part_code Other = host_code OtherZone
+part_code (This None) = host_code NotThere
 part_code (This (Some Done)) = pos 0
 part_code (This (Some InMemory)) = minus 188
 part_code (This (Some OutOfBounds)) = minus 190

@@ -8,8 +8,9 @@ use Rattle.mac_base.specs.declared.block.Kind.TheVariants.{Free, Master, Ptr, Re
 use Rattle.mac_base.specs.FlagState.{state_of}
 use Rattle.mac_base.specs.ZoneMap.{address_after}
 use Rattle.macheap_c.specs.declared.walk.MhBlock.{MhBlock}
+use Rattle.held_zone.specs.declared.host_err.HostErr.TheVariants.{NotThere}
+use Rattle.held_zone.specs.HostCodes.{host_code}
 use Rattle.held_zone.specs.State.{State}
-use Rattle.held_zone.specs.Told.{no_zone}
 
 -- the number of a kind of block
 abbrev pub kind_number : Kind → ℕ
@@ -36,10 +37,10 @@ ShowsBlock None code before block = (code ≡ minus 111) × (block ≡ before)
 
 -- C is shown the block at an address, and the state stays.
 abbrev pub BlockTold : Option State → ℕ → ℤ → MhBlock → MhBlock → Option State → Type 0
-BlockTold None at code before block new = (code ≡ no_zone) × (block ≡ before) × (new ≡ None)
+BlockTold None at code before block new = (code ≡ host_code NotThere) × (block ≡ before) × (new ≡ None)
 BlockTold (Some old) at code before block new = ShowsBlock (report_at old.zone.shape old.zone.heap at) code before block × (new ≡ Some old)
 
 -- C learns where the first block header is, and the state stays.
 abbrev pub FirstTold : Option State → ℤ → ℕ → ℕ → Option State → Type 0
-FirstTold None code before at new = (code ≡ no_zone) × (at ≡ before) × (new ≡ None)
+FirstTold None code before at new = (code ≡ host_code NotThere) × (at ≡ before) × (new ≡ None)
 FirstTold (Some old) code before at new = (code ≡ pos 0) × (at ≡ address_after old.zone.shape []) × (new ≡ Some old)

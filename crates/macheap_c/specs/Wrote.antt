@@ -5,15 +5,16 @@ use Rattle.raw_region.specs.Runs.{DifferIn}
 use Rattle.raw_region.specs.State.{State as Region}
 use Rattle.zone_records.specs.declared.structure.Written.{Written}
 use Rattle.zone_records.specs.Written.{IsIn}
-use Rattle.mac_base.specs.Codes.{code_of}
-use Rattle.mac_base.specs.declared.error.OsErr.{OsErr}
+use Rattle.held_zone.specs.declared.host_err.HostErr.{HostErr}
+use Rattle.held_zone.specs.declared.host_err.HostErr.TheVariants.{BadNumber}
+use Rattle.held_zone.specs.HostCodes.{host_code}
 use Rattle.held_zone.specs.State.{State}
 use Rattle.macheap_c.specs.Guest.{IsPutToSleep, Refused}
 
 -- the code of what may be refused
-abbrev pub code_after : {A : Type 0} → Result A OsErr → ℤ
+abbrev pub code_after : {A : Type 0} → Result A HostErr → ℤ
 code_after (Ok found) = pos 0
-code_after (Err code) = code_of code
+code_after (Err refusal) = host_code refusal
 
 -- the bytes that are there again differ only in these runs from those that the zone woke in
 abbrev pub WroteIn : Option State → Option Region → Runs → Type 0
@@ -31,7 +32,7 @@ abbrev pub Learns : Option State → Option State → Option Region → ℕ × L
 Learns (Some old) None (Some region) before got = (got.0 ≤ length got.1) × DifferOnlyIn (take got.0 got.1) old.zone.memory.region.1 region.bytes
 Learns old new memory before got = got ≡ before
 
--- A zone falls asleep where C has room for a range. Where it has none the answer is paramErr, and all stays.
+-- A zone falls asleep where C has room for a range. Where it has none, all stays.
 abbrev pub IsPutToSleepWith : ℕ → Option State → Option State → Option Region → ℤ → Option State → Option State → Option Region → Type 0
-IsPutToSleepWith zero old_zone old_asleep old_memory code zone asleep memory = Refused old_zone old_asleep old_memory code zone asleep memory
+IsPutToSleepWith zero old_zone old_asleep old_memory code zone asleep memory = Refused BadNumber old_zone old_asleep old_memory code zone asleep memory
 IsPutToSleepWith (suc n) old_zone old_asleep old_memory code zone asleep memory = IsPutToSleep old_zone old_asleep old_memory code zone asleep memory

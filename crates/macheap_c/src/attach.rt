@@ -8,6 +8,7 @@ ghost use Rattle.macheap_c.specs.Life.{large_sizes_of};
 use crate::guest::DAMAGED;
 use crate::life::large_spec_of;
 use held_zone::asleep::MhAsleep;
+use held_zone::host_err::HostErr;
 use held_zone::memory::MhMemory;
 use held_zone::session::Session;
 use held_zone::zone::MhZone;
@@ -40,11 +41,11 @@ pub extern "C" fn mh_attach(
     ensures { IsAttached asleep.old.zone.held.session (large_sizes_of mode base size limit) (region_of memory.old.host) result asleep.new.zone.held.session (region_of memory.new.host) }
 {
     if asleep.is_live() {
-        return OsErr::ParamErr.code();
+        return HostErr::InUse.code();
     }
     match large_spec_of(mode, base, size, limit) {
         Some(spec) => attach(alloc, asleep, memory, spec),
-        None => OsErr::ParamErr.code(),
+        None => HostErr::BadNumber.code(),
     }
 }
 
@@ -54,12 +55,12 @@ fn attach(alloc: Global, asleep: &mut MhAsleep, memory: &mut MhMemory, spec: Zon
     ensures { IsAttached None (Some spec) (region_of memory.old.host) result asleep.new.zone.held.session (region_of memory.new.host) }
 {
     let Some(region) = memory.take() else {
-        return OsErr::ParamErr.code();
+        return HostErr::NotThere.code();
     };
     let len = region.len();
     if len != spec.limit() as usize {
         memory.put(region);
-        return OsErr::ParamErr.code();
+        return HostErr::BadNumber.code();
     }
     let attached = Session::attach(alloc, spec, region.bytes(0, len));
     memory.put(region);
@@ -86,11 +87,11 @@ pub extern "C" fn mh_make_zone_of(
     ensures { IsMadeOf zone.old.held.session (large_sizes_of mode base size limit) image.now result zone.new.held.session }
 {
     if zone.is_live() {
-        return OsErr::ParamErr.code();
+        return HostErr::InUse.code();
     }
     match large_spec_of(mode, base, size, limit) {
         Some(spec) => restore(alloc, zone, spec, image),
-        None => OsErr::ParamErr.code(),
+        None => HostErr::BadNumber.code(),
     }
 }
 
@@ -100,7 +101,7 @@ fn restore(alloc: Global, zone: &mut MhZone, spec: ZoneSpec, image: &[u8]) -> i1
     ensures { IsMadeOf None (Some spec) image.now result zone.new.held.session }
 {
     if image.len() != spec.size() as usize {
-        return OsErr::ParamErr.code();
+        return HostErr::BadNumber.code();
     }
     match Session::restore(alloc, spec, image) {
         Ok(session) => {

@@ -6,7 +6,8 @@ ghost use Rattle.mac_base.specs.declared.memory_call.MemoryCall.TheVariants.{Sho
 ghost use Rattle.mac_base.specs.declared.memory_call.ShowingCall.TheVariants.{Peek};
 ghost use Rattle.held_zone.specs.Told.{LoanToldBytes, ToldBytes, WindowTold};
 
-use held_zone::told::{self, NO_ZONE};
+use held_zone::host_err::HostErr;
+use held_zone::told;
 use held_zone::zone::{MhZone, Window};
 use mac_base::error::NO_ERR;
 use std::alloc::Global;
@@ -23,7 +24,7 @@ pub extern "C" fn mh_peek(
     ensures { ToldBytes zone.old.held.session (Showing (Peek block offset (length bytes.old))) result bytes.old bytes.new zone.new.held.session }
 {
     let Some(mut session) = zone.take(alloc) else {
-        return NO_ZONE;
+        return HostErr::NotThere.code();
     };
     let done = session.peek(block, offset, bytes);
     zone.put(session);
@@ -42,7 +43,7 @@ pub extern "C" fn mh_lent_peek(
     ensures { LoanToldBytes zone.old.held.session (loan_call.LentPeek block offset (length bytes.old)) result bytes.old bytes.new zone.new.held.session }
 {
     let Some(mut session) = zone.take(alloc) else {
-        return NO_ZONE;
+        return HostErr::NotThere.code();
     };
     let done = session.lent_peek(block, offset, bytes);
     zone.put(session);
@@ -60,7 +61,7 @@ pub extern "C" fn mh_window(
     ensures { WindowTold zone.old.held.session block result window.old window.new zone.new.held.session }
 {
     let Some(mut session) = zone.take(alloc) else {
-        return NO_ZONE;
+        return HostErr::NotThere.code();
     };
     let found = session.window(block);
     zone.put(session);

@@ -5,20 +5,20 @@ ghost use Rattle.held_files.specs.Told.{BeginTold, DisposeTold, EndTold, ForgetT
 
 use held_files::files::ForkFiles;
 use held_files::held::MrFiles;
-use held_zone::told::NO_ZONE;
+use held_zone::host_err::HostErr;
 use held_zone::zone::MhZone;
 use mac_base::error::{NO_ERR, OsErr};
 use mac_base::handle::Handle;
 use std::alloc::Global;
 
-/// Begins files of which none is open. paramErr where they have begun.
+/// Begins files of which none is open. InUse where they have begun.
 #[unsafe(no_mangle)]
 pub extern "C" fn mr_begin(alloc: Global, files: &mut MrFiles) -> i16
     ensures { BeginTold files.old.held.files result files.new.held.files }
 {
     if let Some(begun) = files.take(alloc) {
         files.put(begun);
-        return OsErr::ParamErr.code();
+        return HostErr::InUse.code();
     }
     match ForkFiles::create(alloc) {
         Ok(begun) => {
@@ -39,7 +39,7 @@ pub extern "C" fn mr_end(alloc: Global, files: &mut MrFiles) -> i16
             drop(begun);
             NO_ERR
         }
-        None => NO_ZONE,
+        None => HostErr::NotThere.code(),
     }
 }
 
@@ -57,7 +57,7 @@ pub extern "C" fn mr_open(
     files.open(alloc, zone, fork, file)
 }
 
-/// How many bytes the fork of a file has now. paramErr where there is no such number.
+/// How many bytes the fork of a file has now. NoneSuch where there is no such number.
 #[unsafe(no_mangle)]
 pub extern "C" fn mr_fork_size(
     alloc: Global,
@@ -68,34 +68,35 @@ pub extern "C" fn mr_fork_size(
     ensures { ForkTold (fork_size file) files.old.held.files result size.old size.new files.new.held.files }
 {
     let Some(begun) = files.take(alloc) else {
-        return NO_ZONE;
+        return HostErr::NotThere.code();
     };
     let code = match begun.fork(file) {
         Some(fork) => {
             *size = fork.len();
             NO_ERR
         }
-        None => OsErr::ParamErr.code(),
+        None => HostErr::NoneSuch.code(),
     };
     files.put(begun);
     code
 }
 
-/// Copies the fork of a file as it is now. paramErr where C has room for more bytes or fewer, or there is no such
-/// number.
+/// Copies the fork of a file as it is now. NoneSuch where there is no such number, BadNumber where C has room for more
+/// bytes or fewer.
 #[unsafe(no_mangle)]
 pub extern "C" fn mr_fork(alloc: Global, files: &mut MrFiles, file: u32, bytes: &mut [u8]) -> i16
     ensures { ForkTold (fork_sized file (length bytes.old)) files.old.held.files result bytes.old bytes.new files.new.held.files }
 {
     let Some(begun) = files.take(alloc) else {
-        return NO_ZONE;
+        return HostErr::NotThere.code();
     };
     let code = match begun.fork(file) {
         Some(fork) if fork.len() == bytes.len() => {
             bytes.copy_from_slice(fork);
             NO_ERR
         }
-        _ => OsErr::ParamErr.code(),
+        Some(_) => HostErr::BadNumber.code(),
+        None => HostErr::NoneSuch.code(),
     };
     files.put(begun);
     code

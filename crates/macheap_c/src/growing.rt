@@ -6,10 +6,10 @@ ghost use Rattle.mac_base.specs.GrowZone.{Ask};
 ghost use Rattle.macheap_c.specs.Growing.{AnswerTold, IsShown, answer_of, ask_at, asks_made, carried_at, carried_for, is_known, release_of, shown_ask, shown_carried};
 
 use held_calls::answers::{Carried, MadeAsk};
-use held_zone::told::{self, NO_ZONE};
+use held_zone::host_err::HostErr;
 use held_zone::zone::MhZone;
 use mac_base::Answer;
-use mac_base::error::{NO_ERR, OsErr};
+use mac_base::error::NO_ERR;
 use mac_base::handle::{Handle, Ptr};
 use mac_base::releasing::ReleasingCall;
 use std::alloc::Global;
@@ -70,21 +70,25 @@ pub struct MhCarried {
     pub code: i16,
 }
 
-/// Queues an answer after the others, for the calls to come. Sixteen may wait.
+/// Queues an answer after the others, for the calls to come. Sixteen may wait, and the next is InUse. BadNumber where a
+/// place is of no known kind.
 #[unsafe(no_mangle)]
 pub extern "C" fn mh_queue_answer(alloc: Global, zone: &mut MhZone, answer: &MhAnswer) -> i16
     ensures { AnswerTold zone.old.held.session answer.now result zone.new.held.session }
 {
     let Some(mut session) = zone.take(alloc) else {
-        return NO_ZONE;
+        return HostErr::NotThere.code();
     };
     let Some(answer) = queued(answer) else {
         zone.put(session);
-        return OsErr::ParamErr.code();
+        return HostErr::BadNumber.code();
     };
     let done = session.queue(answer);
     zone.put(session);
-    told::done(done)
+    match done {
+        Ok(()) => NO_ERR,
+        Err(refusal) => refusal.code(),
+    }
 }
 
 /// The answer that C gives, if all its places are of known kinds.
@@ -136,20 +140,20 @@ pub extern "C" fn mh_asked(alloc: Global, zone: &mut MhZone, count: &mut u32) ->
     ensures { IsShown asks_made zone.old.held.session result count.old count.new zone.new.held.session }
 {
     let Some(session) = zone.take(alloc) else {
-        return NO_ZONE;
+        return HostErr::NotThere.code();
     };
     *count = session.asks_made();
     zone.put(session);
     NO_ERR
 }
 
-/// One of the asks of the last call, from 0 on. paramErr where there are not so many.
+/// One of the asks of the last call, from 0 on. NoneSuch where there are not so many.
 #[unsafe(no_mangle)]
 pub extern "C" fn mh_ask(alloc: Global, zone: &mut MhZone, index: u32, ask: &mut MhAsk) -> i16
     ensures { IsShown (ask_at index) zone.old.held.session result ask.old ask.new zone.new.held.session }
 {
     let Some(session) = zone.take(alloc) else {
-        return NO_ZONE;
+        return HostErr::NotThere.code();
     };
     let found = shown_at(session.asks(), index as usize);
     zone.put(session);
@@ -158,11 +162,11 @@ pub extern "C" fn mh_ask(alloc: Global, zone: &mut MhZone, index: u32, ask: &mut
             *ask = found;
             NO_ERR
         }
-        None => OsErr::ParamErr.code(),
+        None => HostErr::NoneSuch.code(),
     }
 }
 
-/// One of the calls that were carried out for one of these asks, both from 0 on. paramErr where there are not so many.
+/// One of the calls that were carried out for one of these asks, both from 0 on. NoneSuch where there are not so many.
 #[unsafe(no_mangle)]
 pub extern "C" fn mh_carried(
     alloc: Global,
@@ -174,7 +178,7 @@ pub extern "C" fn mh_carried(
     ensures { IsShown (carried_at index place) zone.old.held.session result carried.old carried.new zone.new.held.session }
 {
     let Some(session) = zone.take(alloc) else {
-        return NO_ZONE;
+        return HostErr::NotThere.code();
     };
     let found = carried_in(session.asks(), index as usize, place as usize);
     zone.put(session);
@@ -183,7 +187,7 @@ pub extern "C" fn mh_carried(
             *carried = found;
             NO_ERR
         }
-        None => OsErr::ParamErr.code(),
+        None => HostErr::NoneSuch.code(),
     }
 }
 

@@ -4,18 +4,18 @@ ghost use Rattle.std.specs.Prelude.{◌≡◌, [], None, Some, IfErr, IfOk, IfSo
 ghost use Rattle.raw_region.specs.Runs.{AreWithin, noted};
 ghost use Rattle.macheap_c.specs.Wrote.{WroteIn, code_after};
 ghost use Rattle.linked_zone.specs.Written.{DifferIn};
-ghost use Rattle.mac_base.specs.Outcomes.{done_outcome};
-ghost use Rattle.held_zone.specs.Told.{code_told};
 ghost use Rattle.held_zone.specs.Asleep.{IsAsleep, IsAwakeIn, SleepsOn, region_of};
 ghost use Rattle.held_zone.specs.Fields.{managed};
 ghost use Rattle.macheap_c.specs.Guest.{IsMadeAt, IsPutToSleep, IsTold, IsWoken, code_asleep};
 ghost use Rattle.macheap_c.specs.Life.{Ends, large_sizes_of};
+ghost use Rattle.macheap_c.specs.Refusals.{reply_code};
 
 use crate::life::large_spec_of;
+use crate::refusal::{Refusal, reply};
 use held_zone::asleep::MhAsleep;
+use held_zone::host_err::HostErr;
 use held_zone::memory::MhMemory;
 use held_zone::session::Session;
-use held_zone::told::{self, NO_ZONE};
 use held_zone::waking::{NotAwake, WhyAsleep};
 use held_zone::zone::MhZone;
 use linked_zone::Written;
@@ -49,40 +49,42 @@ pub extern "C" fn mh_make_zone_at(
     ensures { IsMadeAt asleep.old.zone.held.session (large_sizes_of mode base size limit) (region_of memory.old.host) result asleep.new.zone.held.session (region_of memory.new.host) }
 {
     let spec = large_spec_of(mode, base, size, limit);
-    told::done(make_at(alloc, asleep, memory, spec))
+    reply(make_at(alloc, asleep, memory, spec))
 }
 
-/// Makes a zone of these sizes that sleeps, if there may be one, where there is none.
+/// Makes a zone of these sizes that sleeps. InUse where one does, BadNumber where no zone has these sizes.
 fn make_at(
     alloc: Global,
     asleep: &mut MhAsleep,
     memory: &mut MhMemory,
     spec: Option<ZoneSpec>,
-) -> Result<(), OsErr>
-    ensures { IsMadeAt asleep.old.zone.held.session spec (region_of memory.old.host) (code_told (Some (done_outcome result))) asleep.new.zone.held.session (region_of memory.new.host) }
+) -> Result<(), Refusal>
+    ensures { IsMadeAt asleep.old.zone.held.session spec (region_of memory.old.host) (reply_code result) asleep.new.zone.held.session (region_of memory.new.host) }
 {
     if asleep.is_live() {
-        return Err(OsErr::ParamErr);
+        return Err(Refusal::Host(HostErr::InUse));
     }
-    make(alloc, asleep, memory, spec.ok_or(OsErr::ParamErr)?)
+    let spec = spec.ok_or(HostErr::BadNumber)?;
+    make(alloc, asleep, memory, spec)
 }
 
-/// Makes a zone of these sizes that sleeps.
+/// Makes a zone of these sizes that sleeps. NotThere where there are no bytes, BadNumber where they aren't as many as its
+/// limit, memFullErr where the host has no memory.
 fn make(
     alloc: Global,
     asleep: &mut MhAsleep,
     memory: &mut MhMemory,
     spec: ZoneSpec,
-) -> Result<(), OsErr>
+) -> Result<(), Refusal>
     requires none { asleep.old.zone.held.session ≡ None }
-    ensures { IsMadeAt None (Some spec) (region_of memory.old.host) (code_told (Some (done_outcome result))) asleep.new.zone.held.session (region_of memory.new.host) }
+    ensures { IsMadeAt None (Some spec) (region_of memory.old.host) (reply_code result) asleep.new.zone.held.session (region_of memory.new.host) }
 {
     let Some(region) = memory.take() else {
-        return Err(OsErr::ParamErr);
+        return Err(Refusal::Host(HostErr::NotThere));
     };
     if region.len() != spec.limit() as usize {
         memory.put(region);
-        return Err(OsErr::ParamErr);
+        return Err(Refusal::Host(HostErr::BadNumber));
     }
     match Session::create(alloc, spec) {
         Ok(session) => {
@@ -92,7 +94,7 @@ fn make(
         }
         Err(_) => {
             memory.put(region);
-            Err(OsErr::MemFullErr)
+            Err(Refusal::Toolbox(OsErr::MemFullErr))
         }
     }
 }
@@ -131,7 +133,7 @@ pub extern "C" fn mh_wake_written(
     wake_asleep(alloc, zone, asleep, memory, Some(written))
 }
 
-/// Wakes the zone that sleeps, if one does, where none is awake.
+/// Wakes the zone that sleeps. InUse where one is awake, NotThere where none sleeps.
 fn wake_asleep(
     alloc: Global,
     zone: &mut MhZone,
@@ -143,15 +145,15 @@ fn wake_asleep(
     ensures { IsWoken zone.old.held.session asleep.old.zone.held.session (region_of memory.old.host) result zone.new.held.session asleep.new.zone.held.session (region_of memory.new.host) }
 {
     if zone.is_live() {
-        return OsErr::ParamErr.code();
+        return HostErr::InUse.code();
     }
     let Some(session) = asleep.take(alloc) else {
-        return NO_ZONE;
+        return HostErr::NotThere.code();
     };
     wake(alloc, session, zone, asleep, memory, written)
 }
 
-/// Wakes a zone that was asleep.
+/// Wakes a zone that was asleep. NotThere where there are no bytes, BadNumber where they aren't as many as its limit.
 fn wake(
     alloc: Global,
     session: Box<Session>,
@@ -169,12 +171,12 @@ fn wake(
     let mut session = session;
     let Some(region) = memory.take() else {
         asleep.put(session);
-        return OsErr::ParamErr.code();
+        return HostErr::NotThere.code();
     };
     if region.len() != session.limit() {
         asleep.put(session);
         memory.put(region);
-        return OsErr::ParamErr.code();
+        return HostErr::BadNumber.code();
     }
     match wake_in(alloc, &mut session, region, written) {
         Ok(()) => {
@@ -237,13 +239,14 @@ pub extern "C" fn mh_sleep(
 }
 
 /// Puts the zone that is awake to sleep, and gives the bytes back in which it was. Returns where they may differ from
-/// those that it woke in.
+/// those that it woke in. InUse where another zone sleeps there, or there are bytes already; NotThere where no zone is
+/// awake, or it isn't in bytes of the host.
 pub(crate) fn put_to_sleep(
     alloc: Global,
     zone: &mut MhZone,
     asleep: &mut MhAsleep,
     memory: &mut MhMemory,
-) -> Result<Wrote, OsErr>
+) -> Result<Wrote, HostErr>
     ensures asleep { IsPutToSleep zone.old.held.session asleep.old.zone.held.session (region_of memory.old.host) (code_after result) zone.new.held.session asleep.new.zone.held.session (region_of memory.new.host) }
     ensures wrote { IfOk result (λ wrote. WroteIn zone.old.held.session (region_of memory.new.host) wrote.runs) }
     ensures within { IfOk result (λ wrote. AreWithin (noted wrote.runs) wrote.len) }
@@ -251,14 +254,14 @@ pub(crate) fn put_to_sleep(
     ensures unchanged { OnErr result (zone.new.held.session ≡ zone.old.held.session) }
 {
     if asleep.is_live() {
-        return Err(OsErr::ParamErr);
+        return Err(HostErr::InUse);
     }
     if let Some(region) = memory.take() {
         memory.put(region);
-        return Err(OsErr::ParamErr);
+        return Err(HostErr::InUse);
     }
     let Some(mut session) = zone.take(alloc) else {
-        return Err(OsErr::ParamErr);
+        return Err(HostErr::NotThere);
     };
     let len = session.limit() as u32;
     match session.sleep() {
@@ -285,6 +288,6 @@ pub extern "C" fn mh_end_asleep(alloc: Global, asleep: &mut MhAsleep) -> i16
             drop(session);
             NO_ERR
         }
-        None => NO_ZONE,
+        None => HostErr::NotThere.code(),
     }
 }

@@ -4,9 +4,12 @@ ghost use Rattle.std.specs.Prelude.{length, Some};
 ghost use Rattle.mac_base.specs.Outcomes.{done_outcome};
 ghost use Rattle.held_zone.specs.Told.{code_told};
 ghost use Rattle.macheap_c.specs.Image.{ImageShown, ImageTold, size_of, sized};
+ghost use Rattle.macheap_c.specs.Refusals.{reply_code};
 
+use crate::refusal::{Refusal, reply};
+use held_zone::host_err::HostErr;
 use held_zone::session::Session;
-use held_zone::told::{self, NO_ZONE};
+use held_zone::told;
 use held_zone::zone::MhZone;
 use mac_base::error::OsErr;
 use std::alloc::Global;
@@ -17,7 +20,7 @@ pub extern "C" fn mh_image_size(alloc: Global, zone: &mut MhZone, size: &mut usi
     ensures { ImageTold size_of zone.old.held.session result size.old size.new zone.new.held.session }
 {
     let Some(session) = zone.take(alloc) else {
-        return NO_ZONE;
+        return HostErr::NotThere.code();
     };
     let measured = measure_image(&session, size);
     zone.put(session);
@@ -34,27 +37,27 @@ fn measure_image(session: &Session, size: &mut usize) -> Result<(), OsErr>
 }
 
 /// Copies these bytes: the zone's header, with the guest's fields, and its blocks with their headers, master pointers
-/// and contents. paramErr where C has room for more bytes or fewer, memLockedErr where a block is lent.
+/// and contents. BadNumber where C has room for more bytes or fewer, memLockedErr where a block is lent.
 #[unsafe(no_mangle)]
 pub extern "C" fn mh_image(alloc: Global, zone: &mut MhZone, bytes: &mut [u8]) -> i16
     ensures { ImageTold (sized (length bytes.old)) zone.old.held.session result bytes.old bytes.new zone.new.held.session }
 {
     let Some(session) = zone.take(alloc) else {
-        return NO_ZONE;
+        return HostErr::NotThere.code();
     };
     let copied = copy_image(&session, bytes);
     zone.put(session);
-    told::done(copied)
+    reply(copied)
 }
 
-/// Copies the bytes of a zone, with the guest's fields, over just as many others. paramErr where there are more or
+/// Copies the bytes of a zone, with the guest's fields, over just as many others. BadNumber where there are more or
 /// fewer, memLockedErr where a block is lent.
-fn copy_image(session: &Session, bytes: &mut [u8]) -> Result<(), OsErr>
-    ensures { ImageShown (sized (length bytes.old)) session.now (code_told (Some (done_outcome result))) bytes.old bytes.new }
+fn copy_image(session: &Session, bytes: &mut [u8]) -> Result<(), Refusal>
+    ensures { ImageShown (sized (length bytes.old)) session.now (reply_code result) bytes.old bytes.new }
 {
     let image = session.memory.image()?;
     if image.len() != bytes.len() {
-        return Err(OsErr::ParamErr);
+        return Err(Refusal::Host(HostErr::BadNumber));
     }
     bytes.copy_from_slice(image);
     session.guest.write(bytes);

@@ -17,6 +17,7 @@ mod look;
 mod named;
 mod partial;
 mod purges;
+mod refusal;
 mod resources;
 mod saved_state;
 mod walk;

@@ -1,12 +1,12 @@
 //! How a zone begins and ends.
 
-ghost use Rattle.std.specs.Prelude.{◌≡◌, Some};
-ghost use Rattle.mac_base.specs.Outcomes.{done_outcome};
-ghost use Rattle.held_zone.specs.Told.{code_told};
+ghost use Rattle.std.specs.Prelude.{◌≡◌};
 ghost use Rattle.macheap_c.specs.Life.{Ends, IsMade, heads_of, large_sizes_of, own_sizes_of, sizes_of, whole};
+ghost use Rattle.macheap_c.specs.Refusals.{reply_code};
 
+use crate::refusal::{Refusal, reply};
+use held_zone::host_err::HostErr;
 use held_zone::session::Session;
-use held_zone::told::{self, NO_ZONE};
 use held_zone::zone::MhZone;
 use mac_base::block::HeadKind;
 use mac_base::error::{NO_ERR, OsErr};
@@ -26,7 +26,7 @@ pub extern "C" fn mh_make_zone(
 ) -> i16
     ensures { IsMade zone.old.held.session (sizes_of mode base size limit) result zone.new.held.session }
 {
-    told::done(make(alloc, zone, spec_of(mode, base, size, limit)))
+    reply(make(alloc, zone, spec_of(mode, base, size, limit)))
 }
 
 /// As `mh_make_zone`, and the zone may be large: up to 1 GB with the blocks of mode 32, and up to the end of the 24-bit
@@ -42,17 +42,18 @@ pub extern "C" fn mh_make_zone_large(
 ) -> i16
     ensures { IsMade zone.old.held.session (own_sizes_of mode base size limit) result zone.new.held.session }
 {
-    told::done(make(alloc, zone, own_spec_of(mode, base, size, limit)))
+    reply(make(alloc, zone, own_spec_of(mode, base, size, limit)))
 }
 
-/// Makes a zone of these sizes, if there may be one, where there is none.
-fn make(alloc: Global, zone: &mut MhZone, spec: Option<ZoneSpec>) -> Result<(), OsErr>
-    ensures { IsMade zone.old.held.session spec (code_told (Some (done_outcome result))) zone.new.held.session }
+/// Makes a zone of these sizes. InUse where there is one, BadNumber where no zone has these sizes, memFullErr where the
+/// host has no memory.
+fn make(alloc: Global, zone: &mut MhZone, spec: Option<ZoneSpec>) -> Result<(), Refusal>
+    ensures { IsMade zone.old.held.session spec (reply_code result) zone.new.held.session }
 {
     if zone.is_live() {
-        return Err(OsErr::ParamErr);
+        return Err(Refusal::Host(HostErr::InUse));
     }
-    let spec = spec.ok_or(OsErr::ParamErr)?;
+    let spec = spec.ok_or(HostErr::BadNumber)?;
     let session = Session::create(alloc, spec).map_err(|_| OsErr::MemFullErr)?;
     zone.put(session);
     Ok(())
@@ -111,6 +112,6 @@ pub extern "C" fn mh_end_zone(alloc: Global, zone: &mut MhZone) -> i16
             drop(session);
             NO_ERR
         }
-        None => NO_ZONE,
+        None => HostErr::NotThere.code(),
     }
 }

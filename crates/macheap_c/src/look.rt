@@ -7,8 +7,9 @@ ghost use Rattle.macheap_c.specs.Walk.{shown_block};
 use crate::guest::DAMAGED;
 use crate::life::heads_of;
 use crate::walk::{MhBlock, shown_block};
+use held_zone::host_err::HostErr;
 use mac_base::block::Block;
-use mac_base::error::{NO_ERR, OsErr};
+use mac_base::error::NO_ERR;
 use zone_look::{Dump, FromBlock, look};
 
 /// What is wrong with a zone: which kind of fault (1 to 13, as `Problem` has them), the address of what is wrong, the
@@ -31,7 +32,7 @@ impl FromBlock for MhBlock {
 }
 
 /// Looks at the memory from a zone's start on, and shows its blocks, as many as C has rows for, and how many there are.
-/// If something is wrong these are the blocks up to it, and the answer is that of damage. paramErr where there is no
+/// If something is wrong these are the blocks up to it, and the answer is that of damage. BadNumber where there is no
 /// such mode.
 #[unsafe(no_mangle)]
 pub extern "C" fn mh_look(
@@ -47,7 +48,7 @@ pub extern "C" fn mh_look(
         (record { rows = blocks.new; count = count.new; wrong = wrong.new }) }
 {
     let Some(heads) = heads_of(mode) else {
-        return OsErr::ParamErr.code();
+        return HostErr::BadNumber.code();
     };
     let found = look(&Dump::new(heads, base, bytes), blocks);
     *count = found.blocks;

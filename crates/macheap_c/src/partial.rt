@@ -6,8 +6,7 @@ ghost use Rattle.res_update.specs.declared.patching_call.PatchingCall.TheVariant
 
 use held_files::elsewhere::OverZone;
 use held_files::held::MrFiles;
-use held_files::told::OTHER_ZONE;
-use held_zone::told::NO_ZONE;
+use held_zone::host_err::HostErr;
 use held_zone::zone::MhZone;
 use mac_base::Span;
 use mac_base::error::NO_ERR;
@@ -27,8 +26,8 @@ fn part_code(end: OverZone<PartialEnd>) -> i16
     ensures { result ≡ part_code end }
 {
     match end {
-        OverZone::Other => OTHER_ZONE,
-        OverZone::This(None) => NO_ZONE,
+        OverZone::Other => HostErr::OtherZone.code(),
+        OverZone::This(None) => HostErr::NotThere.code(),
         OverZone::This(Some(PartialEnd::Done)) => NO_ERR,
         OverZone::This(Some(PartialEnd::InMemory)) => RESOURCE_IN_MEMORY,
         OverZone::This(Some(PartialEnd::OutOfBounds)) => INPUT_OUT_OF_BOUNDS,

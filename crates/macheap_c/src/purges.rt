@@ -5,9 +5,9 @@ ghost use Rattle.mac_base.specs.ZoneState.{written};
 ghost use Rattle.macheap_c.specs.Growing.{IsShown};
 ghost use Rattle.macheap_c.specs.Purges.{HoldTold, PurgedTold, turn_of};
 
-use held_zone::told::NO_ZONE;
+use held_zone::host_err::HostErr;
 use held_zone::zone::MhZone;
-use mac_base::error::{NO_ERR, OsErr};
+use mac_base::error::NO_ERR;
 use std::alloc::Global;
 
 /// Holds calls that would purge from now on; or no more, where `on` is 0.
@@ -16,20 +16,20 @@ pub extern "C" fn mh_hold_purges(alloc: Global, zone: &mut MhZone, on: u32) -> i
     ensures { HoldTold on zone.old.held.session result zone.new.held.session }
 {
     let Some(mut session) = zone.take(alloc) else {
-        return NO_ZONE;
+        return HostErr::NotThere.code();
     };
     session.purges.hold(on != 0);
     zone.put(session);
     NO_ERR
 }
 
-/// The handle that the last call would purge first, where it was held for that. paramErr where it wasn't.
+/// The handle that the last call would purge first, where it was held for that. NoneSuch where it wasn't.
 #[unsafe(no_mangle)]
 pub extern "C" fn mh_would_purge(alloc: Global, zone: &mut MhZone, handle: &mut u32) -> i16
     ensures { IsShown turn_of zone.old.held.session result handle.old handle.new zone.new.held.session }
 {
     let Some(session) = zone.take(alloc) else {
-        return NO_ZONE;
+        return HostErr::NotThere.code();
     };
     let turn = session.purges.turn();
     zone.put(session);
@@ -38,7 +38,7 @@ pub extern "C" fn mh_would_purge(alloc: Global, zone: &mut MhZone, handle: &mut 
             *handle = next.number();
             NO_ERR
         }
-        None => OsErr::ParamErr.code(),
+        None => HostErr::NoneSuch.code(),
     }
 }
 
@@ -54,7 +54,7 @@ pub extern "C" fn mh_purged(
     ensures { PurgedTold zone.old.held.session result (handles.old, count.old) (handles.new, count.new) zone.new.held.session }
 {
     let Some(session) = zone.take(alloc) else {
-        return NO_ZONE;
+        return HostErr::NotThere.code();
     };
     write_front(session.purges.first(), handles);
     *count = session.purges.count();

@@ -390,7 +390,7 @@ pub extern "C" fn mr_get1_ind_type(
     files.kind(alloc, zone, &call, kind)
 }
 
-/// GetResInfo: the type, the id and the name of a resource. paramErr where there is no room for 255 bytes of a name.
+/// GetResInfo: the type, the id and the name of a resource. BadNumber where there is no room for 255 bytes of a name.
 #[unsafe(no_mangle)]
 pub extern "C" fn mr_get_res_info(
     alloc: Global,

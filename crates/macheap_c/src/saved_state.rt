@@ -5,14 +5,11 @@ ghost use Rattle.macheap_c.specs.Image.{size_of, sized};
 ghost use Rattle.macheap_c.specs.SavedState.{LoadReply, SaveReply, fault_code, load_code};
 
 use held_files::held::MrFiles;
-use held_zone::told::NO_ZONE;
+use held_zone::host_err::HostErr;
 use held_zone::zone::MhZone;
 use mac_base::error::{NO_ERR, OsErr};
 use row_image::SaveFault;
 use std::alloc::Global;
-
-/// Files can't be saved over a zone, or bytes are those of none that can: no code of a Macintosh.
-const BAD_STATE: i16 = -1003;
 
 /// The code of a fault.
 fn fault_code(fault: SaveFault) -> i16
@@ -20,7 +17,7 @@ fn fault_code(fault: SaveFault) -> i16
 {
     match fault {
         SaveFault::HostFull => OsErr::MemFullErr.code(),
-        SaveFault::NotSound => BAD_STATE,
+        SaveFault::NotSound => HostErr::BadState.code(),
     }
 }
 
@@ -29,7 +26,7 @@ fn load_code(loaded: Option<Result<(), SaveFault>>) -> i16
     ensures { result ≡ load_code loaded }
 {
     match loaded {
-        None => NO_ZONE,
+        None => HostErr::NotThere.code(),
         Some(Ok(())) => NO_ERR,
         Some(Err(fault)) => fault_code(fault),
     }
@@ -46,7 +43,7 @@ pub extern "C" fn mr_save_size(
     ensures { SaveReply size_of zone.old.held.session files.old.held.files result size.old size.new zone.new.held.session files.new.held.files }
 {
     match files.save(alloc, zone) {
-        None => NO_ZONE,
+        None => HostErr::NotThere.code(),
         Some(Err(fault)) => fault_code(fault),
         Some(Ok(saved)) => {
             *size = saved.len();
@@ -55,7 +52,7 @@ pub extern "C" fn mr_save_size(
     }
 }
 
-/// Copies all that the files are as bytes, for `mr_load` over the zone. paramErr where C has room for more bytes or
+/// Copies all that the files are as bytes, for `mr_load` over the zone. BadNumber where C has room for more bytes or
 /// fewer.
 #[unsafe(no_mangle)]
 pub extern "C" fn mr_save(
@@ -67,18 +64,18 @@ pub extern "C" fn mr_save(
     ensures { SaveReply (sized (length bytes.old)) zone.old.held.session files.old.held.files result bytes.old bytes.new zone.new.held.session files.new.held.files }
 {
     match files.save(alloc, zone) {
-        None => NO_ZONE,
+        None => HostErr::NotThere.code(),
         Some(Err(fault)) => fault_code(fault),
         Some(Ok(saved)) if saved.len() == bytes.len() => {
             bytes.copy_from_slice(&saved);
             NO_ERR
         }
-        Some(Ok(_)) => OsErr::ParamErr.code(),
+        Some(Ok(_)) => HostErr::BadNumber.code(),
     }
 }
 
-/// Makes files of the bytes that `mr_save` copied over this zone, where none have begun: each call does then what it
-/// would have done without the pause.
+/// Makes files of the bytes that `mr_save` copied over this zone: each call does then what it would have done without the
+/// pause. InUse where files have begun.
 #[unsafe(no_mangle)]
 pub extern "C" fn mr_load(
     alloc: Global,
@@ -88,5 +85,8 @@ pub extern "C" fn mr_load(
 ) -> i16
     ensures { LoadReply zone.old.held.session files.old.held.files bytes.now result zone.new.held.session files.new.held.files }
 {
+    if files.are_live() {
+        return HostErr::InUse.code();
+    }
     load_code(files.load(alloc, zone, bytes))
 }

@@ -3,7 +3,7 @@
 ghost use Rattle.std.specs.Prelude.{◌≡◌};
 ghost use Rattle.macheap_c.specs.Walk.{BlockTold, FirstTold, kind_number, owner_number, shown_block};
 
-use held_zone::told::NO_ZONE;
+use held_zone::host_err::HostErr;
 use held_zone::zone::MhZone;
 use mac_base::block::{Block, Entry, Kind};
 use mac_base::error::{NO_ERR, OsErr};
@@ -29,7 +29,7 @@ pub extern "C" fn mh_first_block(alloc: Global, zone: &mut MhZone, at: &mut u32)
     ensures { FirstTold zone.old.held.session result at.old at.new zone.new.held.session }
 {
     let Some(session) = zone.take(alloc) else {
-        return NO_ZONE;
+        return HostErr::NotThere.code();
     };
     *at = session.memory.first_block();
     zone.put(session);
@@ -42,7 +42,7 @@ pub extern "C" fn mh_block(alloc: Global, zone: &mut MhZone, at: u32, block: &mu
     ensures { BlockTold zone.old.held.session at result block.old block.new zone.new.held.session }
 {
     let Some(session) = zone.take(alloc) else {
-        return NO_ZONE;
+        return HostErr::NotThere.code();
     };
     let found = session.memory.entry(at);
     zone.put(session);

@@ -6,16 +6,17 @@ ghost use Rattle.macheap_c.specs.Wrote.{IsPutToSleepWith, Learns};
 
 use crate::guest::put_to_sleep;
 use held_zone::asleep::MhAsleep;
+use held_zone::host_err::HostErr;
 use held_zone::memory::MhMemory;
 use held_zone::zone::MhZone;
 use linked_zone::Written;
-use mac_base::error::{NO_ERR, OsErr};
+use mac_base::error::NO_ERR;
 use std::alloc::Global;
 use zone_records::list_runs;
 
 /// Puts the zone that is awake to sleep as `mh_sleep` does, and lists ranges of the bytes, the lowest first, outside
 /// which none differs from what it was when the zone woke; one that has all bytes where there are more than C has room
-/// for.
+/// for. BadNumber where it has room for none.
 #[unsafe(no_mangle)]
 pub extern "C" fn mh_sleep_wrote(
     alloc: Global,
@@ -29,7 +30,7 @@ pub extern "C" fn mh_sleep_wrote(
     ensures wrote { Learns zone.old.held.session zone.new.held.session (region_of memory.new.host) (count.old, ranges.old) (count.new, ranges.new) }
 {
     if ranges.is_empty() {
-        return OsErr::ParamErr.code();
+        return HostErr::BadNumber.code();
     }
     match put_to_sleep(alloc, zone, asleep, memory) {
         Ok(wrote) => {

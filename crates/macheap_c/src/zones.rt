@@ -1,14 +1,13 @@
 //! Several zones for one set of files.
 
 ghost use Rattle.std.specs.Prelude.{◌≡◌};
-ghost use Rattle.held_files.specs.Elsewhere.{needed};
 ghost use Rattle.held_files.specs.Told.{FirstLoadedTold, ForkTold};
-ghost use Rattle.macheap_c.specs.Zones.{SystemTold, address_given};
+ghost use Rattle.macheap_c.specs.Zones.{SystemTold, address_given, other_zone};
 
 use held_files::held::MrFiles;
-use held_zone::told::NO_ZONE;
+use held_zone::host_err::HostErr;
 use held_zone::zone::MhZone;
-use mac_base::error::{NO_ERR, OsErr};
+use mac_base::error::NO_ERR;
 use std::alloc::Global;
 
 /// An address that C gives: none where it is 0.
@@ -25,14 +24,14 @@ pub extern "C" fn mr_set_system_zone(alloc: Global, files: &mut MrFiles, address
     ensures { SystemTold address files.old.held.files result files.new.held.files }
 {
     let Some(mut begun) = files.take(alloc) else {
-        return NO_ZONE;
+        return HostErr::NotThere.code();
     };
     begun.set_system(address_given(address));
     files.put(begun);
     NO_ERR
 }
 
-/// The first handle that a resource has in a zone, in the order of the files' numbers and of their resources. paramErr
+/// The first handle that a resource has in a zone, in the order of the files' numbers and of their resources. NoneSuch
 /// where there is none.
 #[unsafe(no_mangle)]
 pub extern "C" fn mr_first_loaded(
@@ -46,13 +45,13 @@ pub extern "C" fn mr_first_loaded(
     files.first_loaded(alloc, zone, handle)
 }
 
-/// An address in the zone over which the last call has to be made that was given another. paramErr where there was none.
+/// An address in the zone over which the last call has to be made that was given another. NoneSuch where there was none.
 #[unsafe(no_mangle)]
 pub extern "C" fn mr_other_zone(alloc: Global, files: &mut MrFiles, address: &mut u32) -> i16
-    ensures { ForkTold needed files.old.held.files result address.old address.new files.new.held.files }
+    ensures { ForkTold other_zone files.old.held.files result address.old address.new files.new.held.files }
 {
     let Some(begun) = files.take(alloc) else {
-        return NO_ZONE;
+        return HostErr::NotThere.code();
     };
     let known = begun.needed();
     files.put(begun);
@@ -61,6 +60,6 @@ pub extern "C" fn mr_other_zone(alloc: Global, files: &mut MrFiles, address: &mu
             *address = needed;
             NO_ERR
         }
-        None => OsErr::ParamErr.code(),
+        None => HostErr::NoneSuch.code(),
     }
 }
