@@ -23,10 +23,14 @@ use Rattle.macheap.specs.declared.opened.NotOpened.TheVariants.{Twice}
 abbrev pub is_known : List Found → Found → Bool
 is_known known id = list_any (λ one. same_file one id) known
 
--- A path was followed over links, and the folder of where it leads was synced, if it can be read and that is offered.
+-- the folder of a path was synced, if it can be read and that is offered
+abbrev pub SyncsFolder : Text → Log → Log → Type 0
+SyncsFolder to old new = (new ≡ Open Read (folder_name to) None ∷ old)
+    ⊎ ((folder : File) × (syncing : Syncing) × (new ≡ Sync folder (Some syncing) ∷ Open Read (folder_name to) (Some folder) ∷ old))
+
+-- a path was followed over links, and the folder of where it leads was synced
 abbrev pub SettlesName : Text → Log → Log → Type 0
-SettlesName path old new = (to : Text) × (mid : Log) × Follows path to old mid × ((new ≡ Open Read (folder_name to) None ∷ mid)
-    ⊎ ((folder : File) × (syncing : Syncing) × (new ≡ Sync folder (Some syncing) ∷ Open Read (folder_name to) (Some folder) ∷ mid)))
+SettlesName path old new = (to : Text) × (mid : Log) × Follows path to old mid × SyncsFolder to mid new
 
 -- this file was made at this path, and its folder synced
 abbrev pub Makes : Text → File → Log → Log → Type 0

@@ -1,7 +1,8 @@
 //! How a file of the host is opened, locked against other programs, and synced.
 
 ghost use Rattle.std.specs.Prelude.{◌≡◌, ◌≢◌, IfOk, IfErr, OnOk};
-ghost use Rattle.macheap.specs.Claiming.{HasLock, IsClaimed, IsOpening, LeadsTo, Makes, Opens, SettlesName, as_opened, is_known};
+ghost use Rattle.std.specs.Path.{path_buf_bytes};
+ghost use Rattle.macheap.specs.Claiming.{HasLock, IsClaimed, IsOpening, LeadsTo, Makes, Opens, SettlesName, SyncsFolder, as_opened, is_known};
 
 use crate::opened::{NewFile, NotOpened};
 use fork_disk::HostFile;
@@ -12,6 +13,7 @@ use host_paths::{
 use std::fs::File;
 use std::io;
 use std::io::ErrorKind;
+use std::path::PathBuf;
 
 /// How often a run may name a file.
 #[derive(Clone, Copy)]
@@ -36,17 +38,26 @@ fn is_known(known: &[Found], found: &Found) -> bool
     known.iter().any(|one| one.is_same(found))
 }
 
-/// Syncs the folder of a file that was made, where it can be read, so that a crash leaves the file its name.
+/// Syncs the folder of a path, where it can be read.
+fn sync_folder(rt: &HostRuntime, to: &PathBuf, calls: &mut HostCalls) -> Result<(), NotOpened>
+    ensures syncs { OnOk result (SyncsFolder (path_buf_bytes to.now) calls.old.events calls.new.events) }
+    ensures first { IfErr result (λ why. why ≢ NotOpened.Twice) }
+{
+    match open(rt, folder_name(to), Access::Read, calls) {
+        Ok(folder) => sync(&folder, calls).map_err(unopened).map(|_| ()),
+        Err(error) if error.kind() == ErrorKind::PermissionDenied => Ok(()),
+        Err(error) => Err(unopened(error)),
+    }
+}
+
+/// Syncs the folder of where the path of a file leads that was made, where it can be read, so that a crash leaves the
+/// file its name.
 fn settle_name(rt: &HostRuntime, path: &str, calls: &mut HostCalls) -> Result<(), NotOpened>
     ensures settles { OnOk result (SettlesName path.now calls.old.events calls.new.events) }
     ensures first { IfErr result (λ why. why ≢ NotOpened.Twice) }
 {
     let to = follow(rt, path, calls).map_err(unopened)?;
-    match open(rt, folder_name(&to), Access::Read, calls) {
-        Ok(folder) => sync(&folder, calls).map_err(unopened).map(|_| ()),
-        Err(error) if error.kind() == ErrorKind::PermissionDenied => Ok(()),
-        Err(error) => Err(unopened(error)),
-    }
+    sync_folder(rt, &to, calls)
 }
 
 /// Makes the file of a path, with length 0.

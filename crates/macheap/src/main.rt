@@ -42,13 +42,7 @@ fn run_on_host<W: World, V: PairWorld>(rt: &HostRuntime) -> ExitCode {
     let words = words.as_slice();
     if asks_for_look(words) {
         let mut acts = Acts::new();
-        return ExitCode::from(looked(
-            rt,
-            words,
-            &mut rt.stdout(),
-            &mut rt.stderr(),
-            &mut acts,
-        ));
+        return ExitCode::from(looked(rt, words, &mut rt.stdout(), &mut rt.stderr(), &mut acts));
     }
     let mut input = Counted::new(rt.stdin());
     let mut output = Counted::new(rt.stdout());

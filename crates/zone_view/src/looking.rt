@@ -56,11 +56,7 @@ struct Unread<'a> {
 fn status_of(found: Found) -> u8
     ensures { result ≡ status_of found }
 {
-    if found.fault.is_none() {
-        SOUND
-    } else {
-        WRONG
-    }
+    if found.fault.is_none() { SOUND } else { WRONG }
 }
 
 /// The bytes from a place on.
@@ -94,7 +90,11 @@ fn show<W: Write>(
 ) -> Result<u8, NotWritten>
     ensures { ShowsZone request.now bytes.now (W.contents output.old) (W.contents output.new) result }
 {
-    let dump = Dump::new(request.heads, request.base, bytes_from(bytes, request.skipped));
+    let dump = Dump::new(
+        request.heads,
+        request.base,
+        bytes_from(bytes, request.skipped),
+    );
     let seen = all_seen(alloc, &dump)?;
     write_look(
         alloc,

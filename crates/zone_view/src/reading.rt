@@ -114,11 +114,7 @@ fn note_read(reads: &mut FileReads, file: &File, read: &Result<Vec<u8>, NotRead>
 }
 
 /// The bytes of an open file, noted.
-fn read_noted(
-    alloc: Global,
-    file: &File,
-    reads: &mut FileReads,
-) -> Result<Vec<u8>, NotRead>
+fn read_noted(alloc: Global, file: &File, reads: &mut FileReads) -> Result<Vec<u8>, NotRead>
     ensures noted { reads.new.events ≡ (file.now, answer_of result) ∷ reads.old.events }
     ensures few { IfOk result (λ bytes. length bytes.items ≤ most_bytes) }
     ensures fault { IfErr result IsReadFault }

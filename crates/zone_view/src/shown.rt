@@ -195,7 +195,10 @@ impl fmt::Display for FaultLine {
         let words = words_of(fault.problem);
         let found = Address(fault.found);
         let wanted = Address(fault.wanted);
-        write!(f, "fault {number} at {place}: {words}: {found}, and not {wanted}\n")
+        write!(
+            f,
+            "fault {number} at {place}: {words}: {found}, and not {wanted}\n"
+        )
     }
 }
 
@@ -314,7 +317,10 @@ impl fmt::Display for Masters {
     fn fmt<W: fmt::Write>(&self, f: &mut fmt::Formatter<W>) -> fmt::Result {
         let count = self.0.free_masters;
         let trailer = self.0.trailer;
-        write!(f, "{count} free master pointers, trailer of {trailer} bytes\n")
+        write!(
+            f,
+            "{count} free master pointers, trailer of {trailer} bytes\n"
+        )
     }
 }
 
