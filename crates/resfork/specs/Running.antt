@@ -1,5 +1,5 @@
 -- What the program reads and writes, by what is asked of it.
-use Rattle.std.specs.Prelude.{⊥, Bool, true, false, is_none, ℕ, List}
+use Rattle.std.specs.Prelude.{Bool, true, false, is_none, ℕ, List}
 use Rattle.fork_words.specs.declared.asked.Asked.{Asked}
 use Rattle.fork_words.specs.declared.asked.Asked.TheVariants as asked
 use Rattle.fork_words.specs.declared.asked.Salvage.{Salvage}
