@@ -1,11 +1,10 @@
 -- How commands that change files end.
-use Rattle.std.proofs.Common.{◌≡◌, inl, inr, ℕ, Bool, true, false, List, Option, Some, None, Result, Ok, Err, arith, if◌then◌else◌}
+use Rattle.std.proofs.Common.{◌≡◌, inl, inr, ℕ, List, Option, Some, None, Result, Ok, Err}
 use Rattle.std.specs.Prelude.{IfOk}
 use Rattle.fork_edit.specs.declared.change.NewFile.{NewFile}
 use Rattle.file_acts.specs.declared.message.Problem.{Problem}
 use Rattle.file_acts.specs.Acts.{Log}
 use Rattle.fork_saves.specs.Saving.{EndsSaved}
-use Rattle.file_acts.specs.Statuses.{is_of_fork, is_of_resource, is_of_words, status_of}
 use Rattle.fork_saves.specs.Changing.{EndsAs}
 
 -- however a change ends, it ends with a save, or nothing had to change
@@ -27,13 +26,3 @@ made_saved (Err why) new ends saved = tt
 pub filed : {E F : Type 0} (P : Type 0) (done : Result ℕ E) (result : Result ℕ F) → IfOk result (λ value. done ≡ Ok value) → IfOk done (λ status. P) → IfOk result (λ status. P)
 filed P done (Ok status) is saved = rw is at saved
 filed P done (Err failed) is saved = tt
-
--- no problem has status 0
-none_is_done : (a b c : Bool) → ◌≡◌ {A = ℕ} (if a then 1 else if b then 2 else if c then 3 else 4) 0 → ⊥
-none_is_done true b c is = omega arith
-none_is_done false true c is = omega arith
-none_is_done false false true is = omega arith
-none_is_done false false false is = omega arith
-
-pub never_done : (why : Problem) → status_of why ≡ 0 → ⊥
-never_done why is = none_is_done (is_of_resource why) (is_of_words why) (is_of_fork why) is
