@@ -14,7 +14,7 @@ TOP = os.path.dirname(os.path.dirname(os.path.abspath(__file__)))
 COMMAND = re.compile(r'CommandText \{\s*name: "(\w+)",\s*about: "([^"]*)"')
 WORD = re.compile(r'word!\(((?:"\w+" ?)+), "([\w-]+)", Form::(\w+)(?:\(([^)]*)\))?, Values::(\w+)(?:\("([^"]*)"\))?[^;]*;\s*"((?:[^"\\]|\\.)*)"\)')
 OPTION = re.compile(r'\.arg\((\w+)_option\(alloc, "(\w+)", (\w+)\)\)')
-LOOK_OPTION = re.compile(r'\.arg\(option\(alloc, "(\w+)", "(\w+)", (\w+)\)\)|Arg::new\(alloc, "(\w+)"\)(?:\s*\.\w+\([^"]*\))*\s*\.long\("\w+"\)\s*\.action\(ArgAction::SetTrue\)\s*\.help\("([^"]*)"\)')
+LOOK_OPTION = re.compile(r'\.arg\(option\(alloc, "(\w+)", "(\w+)", (\w+)\)\)|\.arg\(flag_option\(alloc, "(\w+)", "([^"]*)"\)\)')
 HELP = re.compile(r'let (\w+_help) =\s*"([^"]*)";')
 # what an operand or a value is called that names a file, or a folder
 FILES, FOLDERS = {"FILE", "IN", "OUT", "A", "B", "FROM", "TYPE[:ID]|TO"}, {"DIR"}
@@ -70,7 +70,7 @@ def words_of_macheap():
     source = read("crates/macheap/src/asked.rt")
     helps, values = dict(HELP.findall(source)), {"number": "N", "file": "FILE", "flag": ""}
     run = [Word([f"--{name}"], values[kind], kind == "file", brief(helps[text])) for kind, name, text in OPTION.findall(source)]
-    source = read("crates/macheap/src/look.rt")
+    source = read("crates/zone_view/src/asked.rt")
     helps = dict(HELP.findall(source))
     look = [Word([f"--{name or flag}"], value, False, about or brief(helps[text])) for name, value, text, flag, about in LOOK_OPTION.findall(source)]
     return [HELP_OPTION, VERSION_OPTION, *run, look[0]], [HELP_OPTION, *look]
