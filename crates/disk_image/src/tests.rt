@@ -127,9 +127,13 @@ fn refuses_other_images(rt: HostRuntime) {
         &[(1024, b"H+\x00\x04")],
         ImageFault::Refused(Known::Volume(Format::HfsPlus)),
     );
+}
+
+#[test]
+fn refuses_a_raw_disc_of_another_mode(rt: HostRuntime) {
     refuses(
         &rt,
-        alloc,
+        rt.alloc(),
         2400,
         &[
             (0, b"\x00\xFF\xFF\xFF\xFF\xFF\xFF\xFF\xFF\xFF\xFF\x00"),
@@ -145,10 +149,6 @@ fn finds_volumes(rt: HostRuntime) {
     let whole = Range {
         at: 0,
         length: 4096,
-    };
-    let data = Range {
-        at: 84,
-        length: 2048,
     };
     let hfs = (0, Ok((Format::Hfs, whole)));
     let mfs = (0, Ok((Format::Mfs, whole)));
@@ -169,9 +169,17 @@ fn finds_volumes(rt: HostRuntime) {
         Known::Volume(Format::Hfs),
         &[hfs],
     );
+}
+
+#[test]
+fn finds_the_volume_of_a_disk_copy(rt: HostRuntime) {
+    let data = Range {
+        at: 84,
+        length: 2048,
+    };
     reads(
         &rt,
-        alloc,
+        rt.alloc(),
         3000,
         &[
             (0, b"\x01x"),
@@ -240,6 +248,12 @@ fn finds_partitions(rt: HostRuntime) -> Result<(), Fail> {
         Known::Map,
         &[(2, Ok((Format::Hfs, cut)))],
     );
+    Ok(())
+}
+
+#[test]
+fn names_faults_of_partitions(rt: HostRuntime) -> Result<(), Fail> {
+    let alloc = rt.alloc();
     reads(
         &rt,
         alloc,
