@@ -40,7 +40,7 @@ LOOK_OPTIONS = [
     ("mode", "N", "The headers of its blocks, 24 or 32 (default 24)."),
     ("json", "", "Writes JSON. Kinds of faults have the numbers of macheap(3)."),
 ]
-LOOK_STATUSES = "0 if nothing is wrong, 1 if the file can't be read or the output not be written, 2 for a mistake in the words, 3 if something is wrong."
+LOOK_STATUSES = "0 if nothing is wrong, 1 if the file can't be read, the output not be written, or the host has no memory, 2 for a mistake in the words, 3 if something is wrong."
 # a comment of a header that begins a line, or what is between two of them
 ITEM = re.compile(r"^/\*(.*?)\*/\n|((?:(?!/\*)[^\n]*\n)+)", re.M | re.S)
 GUARD = re.compile(r'^#.*\n|^extern "C" \{\n|^\}\n', re.M)
