@@ -10,7 +10,7 @@ kit=${RATTLE_KIT:-/opt/rattle}
 room=$(mktemp -d)
 trap 'rm -rf "$room"' EXIT
 (cd "$top/crates/macheap_c" && rt lib) > /dev/null
-${CC:-cc} -std=c11 -O2 -I"$top/include" "$top/bench/border.c" "$top/crates/macheap_c/out/libmacheap_c.a" \
+${CC:-cc} -std=c11 -O2 -I"$top/c/include" "$top/bench/border.c" "$top/crates/macheap_c/out/libmacheap_c.a" \
     "$kit/c/liblibc_c.a" -o "$room/border"
 for _ in 1 2 3; do
     "$room/border"
@@ -19,7 +19,7 @@ awk '!($1 in least) { least[$1] = $2; name[++count] = $1 }
     $2 < least[$1] { least[$1] = $2 }
     END { for (n = 1; n <= count; n++) printf "%-19s %5.1f ns\n", name[n], least[name[n]] }' "$room/taken"
 for name in trap large open; do
-    ${CC:-cc} -std=c11 -O2 -I"$top/include" "$top/bench/$name.c" "$top/crates/macheap_c/out/libmacheap_c.a" \
+    ${CC:-cc} -std=c11 -O2 -I"$top/c/include" "$top/bench/$name.c" "$top/crates/macheap_c/out/libmacheap_c.a" \
         "$kit/c/liblibc_c.a" -o "$room/$name"
     "$room/$name"
 done

@@ -6,5 +6,5 @@ top=$(cd "$(dirname "$0")/.." && pwd)
 kit=${RATTLE_KIT:-/opt/rattle}
 forks="$top/crates/fork_c/out"
 (cd "$top/crates/fork_c" && rt lib) > /dev/null
-cc -O2 -I "$top/include" -o "$forks/bench_rows" "$top/bench/rows.c" "$forks/libfork_c.a" "$kit/c/liblibc_c.a"
+cc -O2 -I "$top/c/include" -o "$forks/bench_rows" "$top/bench/rows.c" "$forks/libfork_c.a" "$kit/c/liblibc_c.a"
 "$forks/bench_rows"

@@ -2,7 +2,7 @@
 """Makes the man pages docs/macheap.1 and docs/macheap.3, and writes them: tools/man_pages.py.
 
 macheap(1) has the program's own texts: its options and their help from crates/macheap/src, and the first example from docs/SCRIPT.md.
-macheap(3) has the comments and declarations of the headers in include/. `tests/run pages` sees that what is written is what is made.
+macheap(3) has the comments and declarations of the headers in c/include/. `tests/run pages` sees that what is written is what is made.
 """
 import os
 import re
@@ -146,7 +146,7 @@ def header(path):
 
 def head(section):
     """The first line of the page in that section, with the version that the header has."""
-    with open(os.path.join(TOP, "include/macheap.h"), encoding="utf-8") as it:
+    with open(os.path.join(TOP, "c/include/macheap.h"), encoding="utf-8") as it:
         return HEAD.format(section, VERSION.search(it.read())[1])
 
 
@@ -154,7 +154,7 @@ def library():
     """macheap(3)."""
     made = [head(3), ".SH NAME", "macheap, resman, macheap_fork, macheap_traps \\- the classic Macintosh Memory Manager, Resource Manager and resource forks, for C and C++"]
     made += [".SH SYNOPSIS", code('#include "macheap.h"\n#include "resman.h"\n#include "macheap_fork.h"\n#include "macheap_traps.h"'), code("cc emulator.c $(pkg-config --cflags --libs macheap)")]
-    for path, title in [("include/macheap.h", "MEMORY MANAGER"), ("include/resman.h", "RESOURCE MANAGER"), ("include/macheap_fork.h", "RESOURCE FORKS"), ("include/macheap_traps.h", "TRAPS")]:
+    for path, title in [("c/include/macheap.h", "MEMORY MANAGER"), ("c/include/resman.h", "RESOURCE MANAGER"), ("c/include/macheap_fork.h", "RESOURCE FORKS"), ("c/include/macheap_traps.h", "TRAPS")]:
         said, declared = header(path)
         made += [f".SH {title}", *said[1:], *declared]
     return "\n".join([*made, ".SH SEE ALSO", ".BR macheap (1),", ".BR resfork (1)"]) + "\n"

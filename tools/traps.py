@@ -1,5 +1,5 @@
 #!/usr/bin/env python3
-"""Makes include/macheap_traps.h of tools/traps.txt, and writes it: tools/traps.py. With MAME's mactoolbox.cpp as a word it only compares the words
+"""Makes c/include/macheap_traps.h of tools/traps.txt, and writes it: tools/traps.py. With MAME's mactoolbox.cpp as a word it only compares the words
 of the traps with those that MAME has.
 
 `tests/run traps` sees that what is written is what is made, and compares the table with the headers and with the calls of crates/mac_base.
@@ -11,7 +11,7 @@ import textwrap
 from typing import NamedTuple
 
 TOP = os.path.dirname(os.path.dirname(os.path.abspath(__file__)))
-HEADER = "include/macheap_traps.h"
+HEADER = "c/include/macheap_traps.h"
 COLUMNS = 120
 PLACES = {
     "A0": "MH_A0", "A1": "MH_A1", "D0": "MH_D0", "byte": "MH_D0_BYTE", "word": "MH_WORD", "long": "MH_LONG", "boolean": "MH_BOOLEAN",
@@ -146,7 +146,7 @@ def row(trap):
 
 
 def header():
-    """The text of include/macheap_traps.h."""
+    """The text of c/include/macheap_traps.h."""
     made = [BEGIN + "#ifndef MACHEAP_TRAPS_H\n#define MACHEAP_TRAPS_H\n\n#include <stdbool.h>\n#include <stddef.h>\n#include <stdint.h>\n"]
     made += ['#ifdef __cplusplus\nextern "C" {\n#endif\n']
     made += ["/* Flags of the operating system's traps. */\nenum { MH_TRAP_A0 = 0x0100, MH_TRAP_CLEAR = 0x0200, MH_TRAP_SYS = 0x0400 };\n"]

@@ -57,7 +57,7 @@ def main():
         sys.exit("a function takes a page of stack at once, or writes below its stack, as Windows doesn't allow")
     text = BEGIN
     for header in HEADERS:
-        with open(os.path.join(TOP, "include", header), encoding="utf-8") as it:
+        with open(os.path.join(TOP, "c/include", header), encoding="utf-8") as it:
             found = FUNCTION.findall(re.sub(r"/\*.*?\*/", "", it.read(), flags=re.S))
         text += "".join(between(f"int16_t {name}({operands})", name, False) for name, operands in found)
     names = re.findall(r"dllexport\) int16_t (\w+)", text)

@@ -1,5 +1,5 @@
 #!/bin/sh
-# Runs the C programs of c/ over the library as it is installed. These are: the calls, whose answers are compared with what is there, over
+# Runs the C programs of tests/c/ over the library as it is installed. These are: the calls, whose answers are compared with what is there, over
 # the shared library, and over the other with the sanitizers over the C side; the same of a zone in memory that a guest writes, with 40,000
 # random calls, as many where the host says what was written, and 600 zones that are damaged; of zones made of bytes that others wrote:
 # 100,000 of random bytes, 1,200 with a byte that was changed, and 40,000 random calls on zones that are made anew of their bytes; each
@@ -9,8 +9,8 @@
 # writes of some of a resource's bytes; resource files that are saved and loaded amid 20,000 random calls, and each byte of such changed; 100,000 random calls on resource files over
 # three zones;
 # 255 resource files at a time; all traps, by their table; a zone and files that four threads use in
-# turn; a zone that the host has no memory for, over c/heap.c, too; a fork, of which resfork prints the same; and forks whose bytes are
-# known, written anew. Next the examples in C, C++ and Rust (c/check.sh). Then that the library is small, shows the names of its headers and
+# turn; a zone that the host has no memory for, over c/src/heap.c, too; a fork, of which resfork prints the same; and forks whose bytes are
+# known, written anew. Next the examples in C, C++ and Rust (tests/c/examples.sh). Then that the library is small, shows the names of its headers and
 # no other, asks for nothing but the C library's memory, and is installed below DESTDIR as in its place; that each function has a man page;
 # and that the crate in Rust declares what the header does, and the table of traps what the calls are.
 # Words: the programs macheap and resfork, and the folder of what build_c.sh built. It needs make, a C compiler, Python, and the kit's C
@@ -26,11 +26,11 @@ tree=$room/tree/usr
 made() {
     make -s -C "$top/c" OUT="$room/out" LIBRARIES="$folder" "$@"
 }
-# built NAME FLAG..: the program of c/NAME.c
+# built NAME FLAG..: the program of tests/c/NAME.c
 built() {
     name=$1
     shift
-    ${CC:-cc} -std=c11 -Wall -Wextra -Werror "$@" -I"$tree/include" "$top/c/$name.c" "$library" -o "$room/$name"
+    ${CC:-cc} -std=c11 -Wall -Wextra -Werror "$@" -I"$tree/include" "$top/tests/c/$name.c" "$library" -o "$room/$name"
 }
 # same WHAT ONE OTHER
 same() {
@@ -104,7 +104,7 @@ built forks -O1 -fsanitize=address,undefined
 "$room/forks" "$top/crates/resfork/data/sample.rsrc" > "$room/list"
 "$lister" ls --raw "$top/crates/resfork/data/sample.rsrc" | cmp - "$room/list"
 "$top/tests/run" --forks "$room/forks" written
-"$top/c/check.sh" "$tree"
+"$top/tests/c/examples.sh" "$tree"
 
 "$top/tests/checks/declared.py"
 "$top/tests/run" traps

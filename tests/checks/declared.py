@@ -1,5 +1,5 @@
 #!/usr/bin/env python3
-"""Compares the version, and the functions, structs and numbers that c/rust declares, with those of include/macheap.h and resman.h."""
+"""Compares the version, and the functions, structs and numbers that c/rust declares, with those of c/include/macheap.h and resman.h."""
 import os
 import re
 import sys
@@ -58,9 +58,9 @@ def of_rust(calls, sys_rs):
 
 
 def main():
-    wanted = of_c(read("include/macheap.h") + read("include/resman.h"))
+    wanted = of_c(read("c/include/macheap.h") + read("c/include/resman.h"))
     found = of_rust(read("c/rust/src/lib.rs") + read("c/rust/src/resources.rs"), read("c/rust/src/sys.rs"))
-    wanted["MACHEAP_VERSION"] = re.search(r'MACHEAP_VERSION "(.*)"', read("include/macheap.h"))[1]
+    wanted["MACHEAP_VERSION"] = re.search(r'MACHEAP_VERSION "(.*)"', read("c/include/macheap.h"))[1]
     found["MACHEAP_VERSION"] = re.search(r'^version = "(.*)"', read("c/rust/Cargo.toml"), re.M)[1]
     other = [name for name in found if found[name] != wanted.get(name)]
     for name in other:

@@ -26,7 +26,7 @@ LINES = {
     "docs/DESIGN.md": 198,
     "docs/DIFFERENCES.md": 88,
     "docs/EMULATORS.md": 100,
-    "docs/FILES.md": 135,
+    "docs/FILES.md": 147,
     "docs/FORMAT.md": 78,
     "docs/SCRIPT.md": 266,
     "docs/THEOREM.md": 145,
@@ -40,7 +40,7 @@ ALLOWED = re.compile(r"\bstands? for\b")
 UNUSED = re.compile(r"^Not used on these pages, nor in comments: ([^.]*)\.$", re.M)
 # where the version is, which is one for the programs, the library, the crate of C's and the pages
 VERSIONS = {
-    "include/macheap.h": re.compile(r'#define MACHEAP_VERSION "(.*)"'),
+    "c/include/macheap.h": re.compile(r'#define MACHEAP_VERSION "(.*)"'),
     "crates/fork_words/src/command.rt": re.compile(r'\.version\("(.*)"\)'),
     "crates/macheap/src/asked.rt": re.compile(r'const VERSION: &str = "(.*)"'),
     "c/rust/Cargo.toml": re.compile(r'^version = "(.*)"', re.M),

@@ -17,7 +17,7 @@ from checks.forks import Choices, compare, run
 from checks.parts import whole
 from model.fork import NoFork, Row, listing, read_fork
 from model.messages import MISSING, message, refusal
-from model.shown import dots, file_name, folder_name, read_png
+from model.shown import file_name, folder_name, pixels, read_png
 
 RANDOM = random.Random(7)
 ICON = bytes(RANDOM.randrange(256) for _ in range(128))
@@ -26,13 +26,16 @@ SMALL = bytes(RANDOM.randrange(256) for _ in range(96))
 
 # resources with the rows of their pictures
 PICTURES = [
-    (b"ICON", ICON, dots(ICON, 32)),
-    (b"ICN#", ICON + MASK, dots(ICON, 32, MASK)),
-    (b"ics#", SMALL[:32] + MASK[:32], dots(SMALL[:32], 16, MASK[:32])),
-    (b"CURS", SMALL[:32] + MASK[:32] + b"\0\3\0\4", dots(SMALL[:32], 16, MASK[:32])),
-    (b"SICN", SMALL, dots(SMALL, 16)),
-    # one dot, at the left of the second row
-    (b"ICON", bytes(4) + b"\x80" + bytes(123), ["W" * 32, "B" + "W" * 31] + ["W" * 32] * 30),
+    (b"ICON", ICON, pixels(ICON, 32)),
+    (b"ICN#", ICON + MASK, pixels(ICON, 32, MASK)),
+    (b"ics#", SMALL[:32] + MASK[:32], pixels(SMALL[:32], 16, MASK[:32])),
+    (b"CURS", SMALL[:32] + MASK[:32] + b"\0\3\0\4", pixels(SMALL[:32], 16, MASK[:32])),
+    (b"SICN", SMALL, pixels(SMALL, 16)),
+    # one pixel, at the left of the second row
+    (b"ICON", bytes(4) + b"\x80" + bytes(123), pixels(bytes(4) + b"\x80" + bytes(123), 32)),
+    (b"icl8", bytes(range(256)) * 4, pixels(bytes(range(256)) * 4, 32, bits=8)),
+    (b"ics4", SMALL[:32] * 4, pixels(SMALL[:32] * 4, 16, bits=4)),
+    (b"PAT ", SMALL[:8], pixels(SMALL[:8], 8)),
 ]
 
 # resources with what is shown of them
@@ -123,6 +126,10 @@ def try_shown(program, path):
             must(file.read() == png, f"{kind}: -o writes something else")
         status, text, _ = run(program, ["show", path])
         must(status == 0 and text.startswith(kind + b" 1\n000000  "), f"{kind} among others isn't shown in digits")
+    deep = bytes(range(256)) * 4
+    write(path, fork_of([Row(b"ICN#", 2, None, 0, bytes(256)), Row(b"ICN#", 1, None, 0, ICON + MASK), Row(b"icl8", 1, None, 0, deep)]))
+    status, png, told = run(program, ["show", path, "icl8", "1"])
+    must((status, told) == (0, "") and read_png(png) == pixels(deep, 32, MASK, 8), f"an icon in colour hasn't the mask with its id: {told}")
     for kind, data, text in TEXTS:
         write(path, fork_of([Row(kind, -3, b"a \"b\"", 0, data)]))
         compare(f"show {kind} {data}", run(program, ["show", path, kind.decode(), "-3"]), 0, text.encode(), "")

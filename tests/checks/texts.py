@@ -90,8 +90,8 @@ BAD_ENTRIES = [
 ]
 BAD_FIELDS = [
     ({"extra": "00"}, message("bad extra")),
-    ({"resources": None}, message("no manifest", "")),
-    ({"map_attributes": 65536}, message("no manifest", "")),
+    ({"resources": None}, message("no member", "resources")),
+    ({"map_attributes": 65536}, message("no member", "map_attributes")),
 ]
 
 

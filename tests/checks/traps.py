@@ -1,6 +1,6 @@
-"""Compares the table of traps with the library: that include/macheap_traps.h is what tools/traps.py makes of tools/traps.txt; that each function
+"""Compares the table of traps with the library: that c/include/macheap_traps.h is what tools/traps.py makes of tools/traps.txt; that each function
 of macheap.h and resman.h which is a call of the Toolbox has one row, with the operands and results of its header; that each call that
-crates/mac_base defines has a row with as many operands; and that the guest's programs in examples/emulator make the
+crates/mac_base defines has a row with as many operands; and that the guest's programs in examples/guest make the
 same words. Functions and calls that no trap makes are listed below.
 """
 import re
@@ -71,7 +71,7 @@ def of_row(trap):
 
 def wrong_functions(rows):
     """What is wrong with the rows as the headers have their functions, and the functions that have none."""
-    header = read("include/macheap.h") + read("include/resman.h")
+    header = read("c/include/macheap.h") + read("c/include/resman.h")
     fields = fields_of(header)
     declared = {name: taken_and_given(operands, fields) for name, operands in FUNCTION.findall(header)}
     for name, (taken, given) in declared.items():
@@ -111,7 +111,7 @@ def wrong_calls(rows):
 
 def wrong_words(table):
     """The words of the guest's programs that are others than those of their rows."""
-    with open(f"{TOP}/examples/emulator/guest.s", encoding="utf-8") as it:
+    with open(f"{TOP}/examples/guest/guest.s", encoding="utf-8") as it:
         made = MACRO.findall(it.read())
     words = {it.name: it.word for it in table}
     yield from (f"guest.s makes {name} by ${word}" for name, word in made if words.get(name) != int(word, 16))

@@ -1,6 +1,6 @@
 """Checks what a program in C writes of the forks of tests/cases/forks.txt: the same bytes as macheap, or the same code.
 
-PROGRAM, c/forks.c, is given each fork of a few resources that an update writes or refuses to write, and a file to write to.
+PROGRAM, tests/c/forks.c, is given each fork of a few resources that an update writes or refuses to write, and a file to write to.
 """
 import os
 import subprocess

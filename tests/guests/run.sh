@@ -15,7 +15,7 @@ m68k-linux-gnu-objcopy -O binary "$room/guest.elf" "$room/guest.bin"
 # shellcheck disable=SC2086
 cc -std=c11 $strict native.c programs.c -o "$room/native"
 # shellcheck disable=SC2086
-cc -std=c11 $strict -I../../include host.c "$library" -lunicorn -o "$room/host"
+cc -std=c11 $strict -I../../c/include host.c "$library" -lunicorn -o "$room/host"
 # how large the zone of each program may be, and whether something has to happen in it: purges, or asks of the grow-zone procedure
 limits=(0x10000 0x8000 0x8000 0xA000 0x14000 0x8000 0x8000 0x10000 0x8000 0x80000)
 happens=(3 4)

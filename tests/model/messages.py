@@ -44,7 +44,7 @@ ROWS = {
         "one file": "the data fork would take the place of the file that is written",
         "unmade": "no file of this ending is made: show writes texts (--as text), hexadecimal digits (--as hex), and as OUT.png 'ICON', 'ICN#', 'ics#', 'CURS' and 'SICN'; "
         "get writes the bytes of a resource as they are",
-        "no picture": "this {type} is no picture that is written as a PNG file: such are 'ICON', 'ICN#', 'ics#', 'CURS' and 'SICN', as long as these are; "
+        "no picture": "this {type} is no picture that is written as a PNG file: such are icons, cursors, patterns and tables of colours whose bytes are right; "
         "--as hex writes hexadecimal digits, and --as text its bytes as text",
         "many pictures": "a PNG file has one picture: name a resource by its type and its id; --as hex writes hexadecimal digits, and --as text texts",
         "no text": "it ends before its texts do; --as hex shows its bytes",
@@ -128,6 +128,7 @@ ROWS = {
         "not UTF-8": "{file} is no UTF-8 text",
         # folders of unpack
         "no manifest": "it isn't what unpack writes: {fault}",
+        "no member": "it isn't what unpack writes: `{member}` is missing, or isn't such as unpack writes",
         "bad entry": "what it says of the resource in {file} is bad: {fault}",
         "entry's type": "its type isn't four characters of MacRoman",
         "entry's name": "its name isn't at most 255 characters of MacRoman",

@@ -19,7 +19,7 @@ abbrev pub IsGood : HeldCall → Type 0
 IsGood (held.Asked calls) = ⊤
 IsGood (held.OpenFolder wanted is_done) = is_done ≡ true
 IsGood (held.Put path calls) = (bytes : List ℕ) × IsPut bytes calls
-IsGood (held.Stream is_done bytes) = is_done ≡ true
+IsGood (held.Stream path is_done bytes) = is_done ≡ true
 
 abbrev pub AreGood : List HeldCall → Type 0
 AreGood [] = ⊤
@@ -28,7 +28,7 @@ AreGood (call ∷ past) = IsGood call × AreGood past
 -- these bytes were put, or written to what is no regular file
 abbrev pub IsPutBy : List ℕ → HeldCall → Type 0
 IsPutBy bytes (held.Put path calls) = IsPut bytes calls
-IsPutBy bytes (held.Stream is_done out) = (is_done ≡ true) × (out ≡ bytes)
+IsPutBy bytes (held.Stream path is_done out) = (is_done ≡ true) × (out ≡ bytes)
 IsPutBy bytes other = ⊥
 
 -- the same by the last of these calls, and all before it did what they were for

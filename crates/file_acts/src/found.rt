@@ -1,5 +1,11 @@
 //! What a file holds: its resource fork, and the table of that; or why they aren't read.
 
+ghost use Rattle.std.specs.Prelude.{IfErr, IfOk};
+ghost use Rattle.fork_answer.specs.Answer.{IsTableOf};
+ghost use Rattle.fork_answer.specs.Source.{IsForkIn};
+ghost use Rattle.mac_files.specs.OldFiles.{fork_of};
+ghost use Rattle.file_acts.specs.Problems.{IsForkRefused, IsToldOfFailure, LacksFork};
+
 use crate::host::Host;
 use crate::message::Problem;
 use fork_answer::{Failure, read_table, resource_fork};
@@ -8,13 +14,18 @@ use fork_report::Refusal;
 use mac_files::OldFile;
 
 /// Why something isn't shown of a file with these bytes.
-pub fn refused_as(host: &Host<'_>, failure: Failure, bytes: &[u8]) -> Problem {
+pub fn refused_as(host: &Host<'_>, failure: Failure, bytes: &[u8]) -> Problem
+    ensures { IsToldOfFailure bytes.now failure result }
+{
     let refusal = Refusal::of_failure(host.alloc(), failure, bytes);
     Problem::of_refusal(host.alloc(), refusal, bytes)
 }
 
 /// The file that bytes hold, which has a resource fork; or why no fork is found in them.
-pub fn fork_found<'a>(host: &Host<'_>, bytes: &'a [u8]) -> Result<OldFile<'a>, Problem> {
+pub fn fork_found<'a>(host: &Host<'_>, bytes: &'a [u8]) -> Result<OldFile<'a>, Problem>
+    ensures fork { IfOk result (λ found. IsForkIn bytes.now (fork_of found)) }
+    ensures none { IfErr result (LacksFork bytes.now) }
+{
     match resource_fork(host.alloc(), bytes) {
         Ok(found) => Ok(found),
         Err(fault) => Err(refused_as(host, Failure::NoFork(fault), bytes)),
@@ -26,7 +37,10 @@ pub fn table_found<'a>(
     host: &Host<'_>,
     found: &'a OldFile<'_>,
     bytes: &[u8],
-) -> Result<Table<'a>, Problem> {
+) -> Result<Table<'a>, Problem>
+    ensures table { IfOk result (IsTableOf (fork_of found.now)) }
+    ensures refused { IfErr result (IsForkRefused bytes.now (fork_of found.now)) }
+{
     match read_table(host.alloc(), found.fork()) {
         Ok(table) => Ok(table),
         Err(fault) => Err(refused_as(host, Failure::Fork(fault), bytes)),

@@ -1,7 +1,7 @@
 //! What is printed on the standard error, and the exit statuses.
 
 ghost use Rattle.std.specs.Prelude.{◌≡◌, ◌≤◌, IfOk};
-ghost use Rattle.file_acts.specs.Problems.{IsRefusedAs, IsToldOfChange, after_change};
+ghost use Rattle.file_acts.specs.Problems.{IsMissing, IsRefusedAs, IsToldOfChange, after_change};
 ghost use Rattle.file_acts.specs.Statuses.{status_after, status_of, status_of_words};
 
 use crate::host::Host;
@@ -206,15 +206,16 @@ impl Problem {
         else {
             return Problem::Refused(refusal);
         };
-        if can_be_salvaged(alloc, file) {
-            Problem::Salvageable(refusal)
-        } else {
-            Problem::Refused(refusal)
+        match can_be_salvaged(alloc, file) {
+            Ok(true) => Problem::Salvageable(refusal),
+            _ => Problem::Refused(refusal),
         }
     }
 
     /// That there is no such resource.
-    pub fn of_missing(alloc: Global, wanted: &Wanted) -> Problem {
+    pub fn of_missing(alloc: Global, wanted: &Wanted) -> Problem
+        ensures { IsMissing result }
+    {
         match wanted_text(alloc, wanted) {
             Ok(text) => Problem::NotFound(text),
             Err(_) => Problem::HostFull,

@@ -1,3 +1,4 @@
 pub mod Along
 pub mod Leaving
 pub mod Keeping
+mod Opening

@@ -5,11 +5,11 @@ use Rattle.std.specs.declared.io.ErrorKind.{ErrorKind}
 use Rattle.std.specs.declared.io.ErrorKind.TheVariants.{PermissionDenied}
 use Rattle.host_paths.specs.Asked.{LeadsTo, Log, done_answer, folder_name}
 use Rattle.host_paths.specs.Left.{OnlyBeside}
-use Rattle.host_paths.specs.Made.{MakesBeside, RemovesAt, file_of, path_of}
+use Rattle.host_paths.specs.Made.{MakesBeside, file_of, path_of}
 use Rattle.host_paths.specs.declared.beside.Beside.{Beside}
 use Rattle.host_paths.specs.declared.host.Answer.{Answer}
 use Rattle.host_paths.specs.declared.host.Answer.TheVariants.{Is, Nothing, Failed}
-use Rattle.host_paths.specs.declared.host.HostCall.TheVariants.{At, Give, Of, Rename, SetMode, Sync, Write}
+use Rattle.host_paths.specs.declared.host.HostCall.TheVariants.{At, Give, Of, Remove, Rename, SetMode, Sync, Write}
 use Rattle.host_paths.specs.declared.host.FolderOpen.{FolderOpen}
 use Rattle.host_paths.specs.declared.host.Found.{Found}
 use Rattle.host_paths.specs.declared.host.Syncing.{Syncing}
@@ -79,7 +79,7 @@ RenamesIt (Some beside) path result old new = new ≡ Rename (path_of beside) pa
 -- the file beside was to be removed, if there is one
 abbrev pub RemovesIt : {T E : Type 0} → Option Beside → Result T E → Log → Log → Type 0
 RemovesIt None result old new = new ≡ old
-RemovesIt (Some beside) result old new = RemovesAt (path_of beside) result old new
+RemovesIt (Some beside) result old new = new ≡ Remove (path_of beside) (is_ok result) ∷ old
 
 -- a folder that is open; or none, since its mode doesn't let it be read
 abbrev pub open_answer : Option File → Result File ErrorKind

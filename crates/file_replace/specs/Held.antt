@@ -13,6 +13,7 @@ use Rattle.file_replace.specs.declared.calls.Wanted.{Wanted}
 use Rattle.file_replace.specs.declared.calls.Wanted.TheVariants.{Same, Nothing, Anything}
 use Rattle.file_replace.specs.declared.destination.Destination.{Destination}
 use Rattle.file_replace.specs.declared.destination.Destination.TheVariants as destinations
+use Rattle.file_replace.specs.declared.destination.OpenStream.{OpenStream}
 use Rattle.file_replace.specs.declared.held.Held.{Held}
 use Rattle.file_replace.specs.declared.host_place.There.{There}
 use Rattle.file_replace.specs.declared.host_place.There.TheVariants as places
@@ -112,8 +113,8 @@ abbrev pub PutsPrepared : {F : Type 0} → HeldAt → Prepared F → Result Outc
 PutsPrepared there prepared.Unchanged (Ok Unchanged) old new = new ≡ old
 PutsPrepared there (prepared.File file) (Ok (Written answer)) old new = PutsFile there file (Ok answer) old new
 PutsPrepared there (prepared.File file) (Err (refusals.Stopped stop)) old new = PutsFile there file (Err stop) old new
-PutsPrepared there (prepared.Stream stream) (Ok (Written answer)) old new = (answer ≡ NotOffered) × (new ≡ held.Stream true stream.bytes.now ∷ old)
-PutsPrepared there (prepared.Stream stream) (Err (refusals.Stream error)) old new = new ≡ held.Stream false stream.bytes.now ∷ old
+PutsPrepared there (prepared.Stream stream) (Ok (Written answer)) old new = (answer ≡ NotOffered) × (new ≡ held.Stream (path_buf_bytes stream.to.path) true stream.bytes.now ∷ old)
+PutsPrepared there (prepared.Stream stream) (Err (refusals.Stream error)) old new = new ≡ held.Stream (path_buf_bytes stream.to.path) false stream.bytes.now ∷ old
 PutsPrepared there it result old new = ⊥
 
 -- what is prepared was given up, and a file that couldn't be removed is reported
@@ -175,14 +176,14 @@ MakesOver there backup true held before after result old new = IsErrAnd result (
 abbrev pub PreparesHeld : {F : Type 0} → HeldAt → HeldAt → Bool → Held → List ℕ → List ℕ → Result (Prepared F) NotReplaced → Log → Log → Type 0
 PreparesHeld there backup keeps_old held before after result old new = ((before ≡ after) × (result ≡ Ok prepared.Unchanged) × (new ≡ old)) ⊎ ((before ≢ after) × MakesOver there backup keeps_old held before after result old new)
 
--- these bytes are for a stream
-abbrev pub IsForStream : {F : Type 0} → List ℕ → Prepared F → Type 0
-IsForStream bytes (prepared.Stream stream) = stream.bytes.now ≡ bytes
-IsForStream bytes it = ⊥
+-- these bytes are for this stream
+abbrev pub IsForStream : {F : Type 0} → OpenStream → List ℕ → Prepared F → Type 0
+IsForStream to bytes (prepared.Stream stream) = (stream.to ≡ to) × (stream.bytes.now ≡ bytes)
+IsForStream to bytes it = ⊥
 
 -- A file is made beside the one that is there, whose rights it gets, or beside a path that has none. For a stream
 -- nothing is done.
 abbrev pub PreparesAt : {F : Type 0} → HeldAt → Destination → List ℕ → Result (Prepared F) NotReplaced → Log → Log → Type 0
 PreparesAt there (destinations.Existing held) bytes result old new = MakesPrepared there (path_buf_bytes held.path) (places.This held.file) (Some held.rights) held.names bytes result old new
 PreparesAt there (destinations.New it) bytes result old new = MakesPrepared there (path_buf_bytes it.path) places.Nothing None 1 bytes result old new
-PreparesAt there (destinations.Stream stream) bytes result old new = IsOkAnd result (IsForStream bytes) × (new ≡ old)
+PreparesAt there (destinations.Stream stream) bytes result old new = IsOkAnd result (IsForStream stream bytes) × (new ≡ old)

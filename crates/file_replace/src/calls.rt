@@ -1,6 +1,7 @@
 //! The calls that were made at a path of the host, for clauses alone.
 
 ghost use Rattle.std.specs.Prelude.{◌≡◌, [], ◌∷◌};
+ghost use Rattle.std.specs.Path.{path_buf_bytes};
 ghost use Rattle.file_replace.specs.declared.calls.HeldCall.TheVariants as held;
 ghost use Rattle.file_replace.specs.declared.calls.HeldCall.TheVariants.{Asked, OpenFolder, Put};
 
@@ -64,8 +65,8 @@ pub enum HeldCall {
     OpenFolder(Wanted, bool),
     /// A file was put at this path, or was to be, by these calls.
     Put(LinkedList<u8>, LinkedList<(Noted, LinkedList<u8>)>),
-    /// These bytes were to be written to what is no regular file, and whether they were.
-    Stream(bool, LinkedList<u8>),
+    /// These bytes were to be written to what this path led to, no regular file, and whether they were.
+    Stream(LinkedList<u8>, bool, LinkedList<u8>),
 }
 
 /// What was done for a file, the newest first.
@@ -92,17 +93,17 @@ pub(crate) fn note_asked(log: &mut HeldCalls, asked: &HostCalls)
     *log = Record::of_events_beside(log, asked, &());
 }
 
-/// Notes what was to be written to what is no regular file, by this call of the host.
+/// Notes what was to be written to what is no regular file, and by which path that was opened, by this call of the host.
 pub(crate) fn note_stream(
     log: &mut HeldCalls,
     is_done: bool,
     stream: &Stream<'_>,
     _calls: &StreamCalls,
 )
-    requires { _calls.now.events ≡ record { file = stream.now.file; bytes = stream.now.bytes.now; is_done = is_done } ∷ [] }
-    ensures { log.new.events ≡ held.Stream is_done stream.now.bytes.now ∷ log.old.events }
+    requires { _calls.now.events ≡ record { file = stream.now.to.file; bytes = stream.now.bytes.now; is_done = is_done } ∷ [] }
+    ensures { log.new.events ≡ held.Stream (path_buf_bytes stream.now.to.path) is_done stream.now.bytes.now ∷ log.old.events }
 {
-    *log = Record::of_events_beside(log, &is_done, &stream.bytes);
+    *log = Record::of_events_beside(log, &is_done, stream);
 }
 
 /// Notes a call with its answer.

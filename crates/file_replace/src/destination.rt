@@ -4,7 +4,7 @@ ghost use Rattle.std.specs.Prelude.{◌≡◌, [], IfErr, IfOk, None, Some};
 ghost use Rattle.std.specs.Path.{path_buf_bytes};
 ghost use Rattle.host_paths.specs.Asked.{KeepsAsking};
 ghost use Rattle.file_replace.specs.Held.{BacksUp, MakesOver, MakesPrepared, PreparesAt, PreparesHeld, backup_name};
-ghost use Rattle.file_replace.specs.Opening.{Asks, IsOpened, IsStream, IsUnopened, OpensAs};
+ghost use Rattle.file_replace.specs.Opening.{Asks, HasMoved, IsNoStream, IsOpened, IsStream, IsUnopened, OpensAs};
 
 use crate::calls::{HeldCalls, note_asked};
 use crate::held::{Held, unopened};
@@ -37,22 +37,34 @@ pub struct NewPath {
 /// What is no regular file, open to be written.
 #[derive(Drop)]
 pub struct OpenStream {
-    file: File,
+    pub(crate) file: File,
+    /// By which path it was opened.
+    pub(crate) path: PathBuf,
 }
 
 /// Opens what is no regular file. Nothing is made or emptied. What it is is asked of what was opened.
-fn open_stream(rt: &HostRuntime, path: &str, asked: &mut HostCalls) -> Result<File, NotReplaced>
-    ensures stream { IfOk result (λ file. IsStream path.now file asked.old.events asked.new.events) }
-    ensures refuses { IfErr result (λ refusal. IsUnopened refusal asked.new.events) }
+#[tactic(auto, using(crate::proofs::Opening::never_moved))]
+fn open_stream(
+    rt: &HostRuntime,
+    path: &str,
+    asked: &mut HostCalls,
+) -> Result<OpenStream, NotReplaced>
+    ensures stream { IfOk result (λ stream. IsStream path.now stream.file asked.old.events asked.new.events) }
+    ensures path { IfOk result (λ stream. path_buf_bytes stream.path ≡ path.now) }
+    ensures refuses { IfErr result (λ refusal. IsUnopened (IsNoStream path.now asked.old.events asked.new.events) refusal asked.new.events) }
     ensures asks { KeepsAsking asked.old.events asked.new.events }
 {
+    let own_path = PathBuf::from_str(rt.alloc(), path)?;
     let file = match open(rt, path, Access::Write, asked) {
         Ok(file) => file,
         Err(error) => return Err(unopened(error)),
     };
     match found_of(&file, asked) {
         Ok(here) if here.is_regular() => Err(NotReplaced::Moved),
-        Ok(_) => Ok(file),
+        Ok(_) => Ok(OpenStream {
+            file,
+            path: own_path,
+        }),
         Err(error) => Err(unopened(error)),
     }
 }
@@ -75,6 +87,7 @@ impl Destination {
     }
 
     /// The same, and notes each call.
+    #[tactic(auto, using(crate::proofs::Opening::never_moved))]
     fn open_at(
         rt: &HostRuntime,
         path: &str,
@@ -93,6 +106,7 @@ impl Destination {
     }
 
     /// Opens what was found at a path.
+    #[tactic(auto, using(crate::proofs::Opening::unopened_since))]
     fn open_found(
         rt: &HostRuntime,
         path: &str,
@@ -100,7 +114,7 @@ impl Destination {
         asked: &mut HostCalls,
     ) -> Result<Destination, NotReplaced>
         ensures opened { IfOk result (λ destination. IsOpened path.now found.now destination asked.old.events asked.new.events) }
-        ensures refuses { IfErr result (λ refusal. IsUnopened refusal asked.new.events) }
+        ensures refuses { IfErr result (λ refusal. IsUnopened (HasMoved path.now found.now asked.old.events asked.new.events) refusal asked.new.events) }
         ensures asks { KeepsAsking asked.old.events asked.new.events }
     {
         if found.is_regular() {
@@ -110,7 +124,7 @@ impl Destination {
             }
         } else {
             match open_stream(rt, path, asked) {
-                Ok(file) => Ok(Destination::Stream(OpenStream { file })),
+                Ok(stream) => Ok(Destination::Stream(stream)),
                 Err(refusal) => Err(refusal),
             }
         }
@@ -128,9 +142,7 @@ impl Destination {
         match self {
             Destination::Existing(held) => held.prepared(rt, bytes, log),
             Destination::New(new) => new.prepared(rt, bytes, log),
-            Destination::Stream(OpenStream { file }) => {
-                Ok(Prepared::Stream(Stream { file, bytes }))
-            }
+            Destination::Stream(to) => Ok(Prepared::Stream(Stream { to, bytes })),
         }
     }
 }

@@ -1,9 +1,10 @@
 //! A file that is open and locked, to be replaced.
 
 ghost use Rattle.std.specs.Prelude.{◌≡◌, List, [], IfErr, IfOk, OnOk};
+ghost use Rattle.std.specs.Path.{path_buf_bytes};
 ghost use Rattle.host_paths.specs.Asked.{KeepsAsking};
 ghost use Rattle.host_paths.specs.declared.host.HostCall.{HostCall};
-ghost use Rattle.file_replace.specs.Opening.{Asks, Holds, IsLocked, IsOwn, IsUnopened, OpensHeld, is_one, rights_of};
+ghost use Rattle.file_replace.specs.Opening.{Asks, Holds, HoldsAnother, IsAnother, IsLocked, IsOwn, IsUnopened, OpensHeld, is_one, rights_of};
 
 use crate::calls::{HeldCalls, note_asked};
 use crate::rights::{Owner, Rights};
@@ -27,7 +28,7 @@ pub struct Held {
 
 /// Why a file that can't be opened isn't changed.
 pub(crate) fn unopened(error: io::Error) -> NotReplaced
-    ensures { (calls : List HostCall) → IsUnopened result calls }
+    ensures { (calls : List HostCall) → IsUnopened ⊥ result calls }
 {
     if error.kind() == ErrorKind::OutOfMemory {
         NotReplaced::HostFull
@@ -39,7 +40,7 @@ pub(crate) fn unopened(error: io::Error) -> NotReplaced
 /// Locks a file against others that do so. Where the file system has no locks, there is none.
 fn lock_it(file: &File, asked: &mut HostCalls) -> Result<(), NotReplaced>
     ensures locked { OnOk result (IsLocked file.now asked.old.events asked.new.events) }
-    ensures refuses { IfErr result (λ refusal. IsUnopened refusal asked.new.events) }
+    ensures refuses { IfErr result (λ refusal. IsUnopened ⊥ refusal asked.new.events) }
     ensures asks { KeepsAsking asked.old.events asked.new.events }
 {
     match lock(file, asked) {
@@ -83,6 +84,7 @@ impl Held {
     }
 
     /// The same, and notes each call.
+    #[tactic(auto, using(crate::proofs::Opening::never_moved))]
     fn open_at(rt: &HostRuntime, path: &str, asked: &mut HostCalls) -> Result<Held, NotReplaced>
         ensures { asked.old.events ≡ [] → OpensHeld path.now result asked.new.events }
     {
@@ -100,6 +102,7 @@ impl Held {
     }
 
     /// Opens the regular file that was found at a path.
+    #[tactic(auto, using(crate::proofs::Opening::never_moved))]
     pub(crate) fn open_found(
         rt: &HostRuntime,
         path: &str,
@@ -107,7 +110,7 @@ impl Held {
         asked: &mut HostCalls,
     ) -> Result<Held, NotReplaced>
         ensures holds { IfOk result (λ held. Holds path.now held found.now asked.old.events asked.new.events) }
-        ensures refuses { IfErr result (λ refusal. IsUnopened refusal asked.new.events) }
+        ensures refuses { IfErr result (λ refusal. IsUnopened (HoldsAnother path.now found.now asked.old.events asked.new.events) refusal asked.new.events) }
         ensures asks { KeepsAsking asked.old.events asked.new.events }
     {
         let path = match follow(rt, path, asked) {
@@ -125,6 +128,7 @@ impl Held {
     }
 
     /// What was opened and locked, if it is the file that was found, and this path is its own.
+    #[tactic(auto, using(crate::proofs::Opening::never_moved))]
     fn locked(
         rt: &HostRuntime,
         path: PathBuf,
@@ -133,7 +137,7 @@ impl Held {
         asked: &mut HostCalls,
     ) -> Result<Held, NotReplaced>
         ensures own { IfOk result (λ held. IsOwn held path file found.now asked.old.events asked.new.events) }
-        ensures refuses { IfErr result (λ refusal. IsUnopened refusal asked.new.events) }
+        ensures refuses { IfErr result (λ refusal. IsUnopened (IsAnother (path_buf_bytes path) file found.now asked.old.events asked.new.events) refusal asked.new.events) }
         ensures asks { KeepsAsking asked.old.events asked.new.events }
     {
         let here = match found_of(&file, asked) {

@@ -10,6 +10,7 @@ ghost use Rattle.file_replace.specs.Pair.{LeftOfBoth};
 ghost use Rattle.file_replace.specs.Held.{EndsBoth, GivesUp, GivesUpPrepared, MakesFile, PutsFile, PutsFiles, PutsInTurn, PutsOver, PutsPrepared, PutsTwo, difference, fault_of, losses_by, prepared_losses};
 
 use crate::calls::{HeldCalls, note_stream};
+use crate::destination::OpenStream;
 use crate::host_place::{FileReplacer, There};
 use crate::pair::{PairFault, put_both as put_both_places};
 use crate::place::{FolderSync, Replaces};
@@ -20,7 +21,6 @@ use crate::told::{NotReplaced, put_left};
 use crate::world::FolderWorld;
 use host_paths::{StreamCalls, write_stream};
 use std::fmt::{Display, Formatter};
-use std::fs::File;
 use std::path::PathBuf;
 use std::{fmt, io};
 
@@ -81,7 +81,7 @@ pub struct NewFile<'a, F: FolderWorld> {
 /// What is no regular file, open to be written, and the bytes for it.
 #[derive(Drop)]
 pub struct Stream<'a> {
-    pub(crate) file: File,
+    pub(crate) to: OpenStream,
     pub(crate) bytes: &'a [u8],
 }
 
@@ -227,10 +227,10 @@ pub(crate) fn put_over<B: FolderWorld>(
 impl<'a> Stream<'a> {
     /// Writes the bytes.
     fn put(self, log: &mut HeldCalls) -> io::Result<()>
-        ensures { log.new.events ≡ HeldCall.Stream (is_ok result) self.entry.bytes.now ∷ log.old.events }
+        ensures { log.new.events ≡ HeldCall.Stream (path_buf_bytes self.entry.to.path) (is_ok result) self.entry.bytes.now ∷ log.old.events }
     {
         let mut calls = StreamCalls::new();
-        let done = write_stream(&self.file, self.bytes, &mut calls);
+        let done = write_stream(&self.to.file, self.bytes, &mut calls);
         note_stream(log, done.is_ok(), &self, &calls);
         done
     }

@@ -10,3 +10,5 @@ pub mod Front
 pub mod Again
 pub mod Texts
 pub mod Adding
+pub mod Placing
+pub mod Reading

@@ -1,8 +1,9 @@
 -- A text in MacRoman is that of no other bytes.
-use Rattle.std.proofs.Common.{◌≡◌, ℕ, suc, ◌+◌, ◌<◌, ◌==◌, eqb, if◌then◌else◌, true, List, [], ◌∷◌, ◌++◌, length, Option, None, Some, refl, sym, ap, ◌∙◌, length-append, arith}
-use Rattle.std.specs.Prelude.{◌*◌, nat_lt, encode_utf8, option_map, string_bytes, IfSome}
-use Rattle.std.specs.List.{AllByRecursion, position_or_len}
+use Rattle.std.proofs.Common.{◌≡◌, ℕ, suc, ◌+◌, ◌<◌, ◌==◌, eqb, if◌then◌else◌, true, List, [], ◌∷◌, ◌++◌, length, Option, None, Some, refl, sym, ap, subst, ◌∙◌, length-append, arith}
+use Rattle.std.specs.Prelude.{nat_lt, encode_utf8, option_map, string_bytes, IfSome, IsSome, ◌↔◌}
+use Rattle.std.specs.List.{AllByRecursion, AllPass, position_or_len}
 use Rattle.std.proofs.lemmas.Bool.{agree_below_at, eqb-true}
+use Rattle.hex.specs.Hex.{is_hex_digit}
 use Rattle.hex.proofs.HexLemmas.{decode_of-same}
 use Rattle.std.proofs.lemmas.Str.{encode_same, length-encode, len_utf8_bounds}
 use Rattle.fork_list.specs.declared.roman.TheConstants.{UPPER}
@@ -75,3 +76,9 @@ say_more [] [] resource one says is = (is, tt)
 say_more [] (other ∷ others) resource one says is = absurd says
 say_more (first ∷ resources) [] resource one says is = absurd says
 say_more (first ∷ resources) (other ∷ others) resource one says is = (says.0, say_more resources others resource one says.1 is)
+
+-- where nothing is found, a text isn't 480 digits
+pub no_digits : (found : Option (List ℕ)) (text said : List ℕ) → (IsSome found ↔ ((length text ≡ 480) × AllPass is_hex_digit text)) → said ≡ text → found ≡ None
+    → ¬ ((length said ≡ 480) × AllPass is_hex_digit said)
+no_digits (Some bytes) text said both same none good = absurd cc
+no_digits None text said both same none good = let some = both.1 (subst (λ (t : List ℕ). (length t ≡ 480) × AllPass is_hex_digit t) same good) in absurd cc

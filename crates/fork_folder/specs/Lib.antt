@@ -7,3 +7,4 @@ pub mod PackedAgain
 pub mod Paths
 pub mod Manifest
 pub mod Added
+pub mod Json

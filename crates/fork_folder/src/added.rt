@@ -1,7 +1,8 @@
 //! Files that the manifest doesn't name, by their paths.
 
-ghost use Rattle.std.specs.Prelude.{◌≡◌, ◌<◌, ◌≤◌, ◌^◌, IfOk, IfSome, OnOk, length, map};
-ghost use Rattle.fork_folder.specs.Added.{AreAdded, IsAdded, IsNamedSo, is_path};
+ghost use Rattle.std.specs.Prelude.{◌≡◌, ◌<◌, ◌≤◌, ◌^◌, IfErr, IfOk, IfSome, OnOk, length, map};
+ghost use Rattle.std.specs.List.{insert};
+ghost use Rattle.fork_folder.specs.Added.{AreAdded, AreNotAdded, IsAdded, IsNamedSo, IsNotAdded, count_at, is_path, with_entry};
 
 use crate::file_name::FileName;
 use crate::folder::{MarkedName, PlainName};
@@ -146,49 +147,58 @@ fn named_by(alloc: Global, path: &str) -> Result<Option<Named>, AllocError>
     Ok(Some(Named { entry, n }))
 }
 
-/// How many of these entries have this type and id.
-fn count_same(entries: &[Entry], kind: ResType, id: i16) -> usize {
+/// How many of these entries have the type and the id of this one.
+fn count_same(entries: &[Entry], new: &Entry) -> usize
+    ensures { result ≡ count_at new.now.kind new.now.id entries.now }
+{
     entries
         .iter()
-        .filter(|entry| entry.kind == kind && entry.id == id)
+        .filter(|entry| entry.kind == new.kind && entry.id == new.id)
         .count()
 }
 
-/// Where a resource of this type is put: after the last one of its type, or at the end.
-fn place_of(entries: &[Entry], kind: ResType) -> usize
-    ensures { result ≤ length entries.now }
+/// Where one more entry of this type goes: after the last one of its type, or at the end where there is none of it.
+fn end_of_type(entries: &[Entry], kind: ResType) -> usize
+    ensures within { result ≤ length entries.now }
+    ensures added { (new : Entry) → new.kind ≡ kind → insert entries.now result new ≡ with_entry new entries.now }
 {
-    match entries.iter().rposition(|entry| entry.kind == kind) {
-        Some(last) => last + 1,
-        None => entries.len(),
+    let mut end = entries.len();
+    while end > 0 {
+        if entries[end - 1].kind == kind {
+            return end;
+        }
+        end -= 1;
     }
+    entries.len()
 }
 
 /// Adds the entry of the file of a path.
 fn add(alloc: Global, entries: &mut Vec<Entry>, path: &str) -> Result<(), PackFault>
-    ensures { OnOk result (IsAdded path.now entries.old.items entries.new.items) }
+    ensures added { OnOk result (IsAdded path.now entries.old.items entries.new.items) }
+    ensures refused { IfErr result (IsNotAdded path.now entries.old.items) }
 {
     let Some(Named { entry, n }) = named_by(alloc, path)? else {
         return Err(PackFault::Unnamed(String::from_str(alloc, path)?));
     };
-    if count_same(entries.as_slice(), entry.kind, entry.id) != n {
+    if count_same(entries.as_slice(), &entry) != n {
         return Err(PackFault::Taken(String::from_str(alloc, path)?));
     }
-    let at = place_of(entries.as_slice(), entry.kind);
-    entries.insert(at, entry)?;
+    let end = end_of_type(entries.as_slice(), entry.kind);
+    entries.insert(end, entry)?;
     Ok(())
 }
 
 /// Entries, and those of the files of these paths, each after the last of its type: its type, its id and its name are
-/// those that its path says, and it has no attributes. A path that `unpack` doesn't give is refused, and so is one whose
-/// type and id another entry has, unless it says which one of them it is.
+/// those that its path says, and it has no attributes. The first path is refused that `unpack` doesn't give, or that says
+/// another number than that of the entries before it which have its type and id.
 #[tactic(auto, using(crate::proofs::Adding::added_at))]
 pub fn with_added(
     alloc: Global,
     entries: Vec<Entry>,
     paths: &[&str],
 ) -> Result<Vec<Entry>, PackFault>
-    ensures { IfOk result (λ new. AreAdded (map (λ path. path.now) paths.now) entries.items new.items) }
+    ensures added { IfOk result (λ new. AreAdded (map (λ path. path.now) paths.now) entries.items new.items) }
+    ensures refused { IfErr result (AreNotAdded (map (λ path. path.now) paths.now) entries.items) }
 {
     let mut entries = entries;
     for path in paths {

@@ -1,5 +1,6 @@
 //! No two resources are unpacked to one file, file systems take the names, and what was unpacked is packed again.
 
+ghost use Rattle.fork_folder.specs.Json.{IsReadBack};
 ghost use Rattle.fork_folder.specs.Laws.{AreSafe, IsOneToOne};
 ghost use Rattle.fork_folder.specs.Manifest.{IsForkReadAgain, IsReadAgain};
 ghost use Rattle.fork_folder.specs.PackedAgain.{IsPackedAgain};
@@ -11,12 +12,12 @@ pub fn folder_laws()
     ensures safe { AreSafe }
 {}
 
-/// The files that the rows of a fork are unpacked to, packed again by what their manifest says, are those rows. And the
-/// manifest says of a resource, and of a fork, what it says of no other, so what is written is read as the same. Only
-/// tested is that its text is read as the manifest that was written: the kit's derives for serde have no clause on that.
-/// It computes nothing.
+/// The files that the rows of a fork are unpacked to, packed again by what their manifest says, are those rows. The
+/// manifest says of a resource, and of a fork, what it says of no other, and its JSON is read as what was written. It
+/// computes nothing.
 pub fn pack_laws()
     ensures again { IsPackedAgain }
     ensures same { IsReadAgain }
     ensures fork { IsForkReadAgain }
+    ensures back { IsReadBack }
 {}

@@ -8,6 +8,7 @@ mod counts;
 mod file_name;
 pub mod files;
 mod folder;
+mod json;
 mod laws;
 pub mod manifest;
 pub mod rows;
@@ -15,6 +16,7 @@ mod types;
 
 pub use added::with_added;
 pub use files::unpacked;
+pub use json::manifest_text;
 pub use laws::{folder_laws, pack_laws};
 pub use manifest::manifest_of;
 pub use rows::packed;

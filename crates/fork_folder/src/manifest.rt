@@ -1,17 +1,22 @@
 //! What `resources.json` says.
 
-ghost use Rattle.std.specs.Prelude.{◌≡◌, ◌↔◌, IfErr, IfOk, IfSome, IsSome, length, map, option_map, string_bytes};
+ghost use Rattle.std.specs.Prelude.{◌≡◌, ◌↔◌, IfErr, IfOk, IfSome, IsSome, None, Some, length, map, option_map, string_bytes};
 ghost use Rattle.std.specs.List.{AllByRecursion, AllPass, list_any};
 ghost use Rattle.hex.specs.Hex.{is_hex_digit};
 ghost use Rattle.fork_list.specs.Roman.{roman_text};
+ghost use Rattle.serde_json.specs.Data.{Data};
+ghost use Rattle.serde_json.specs.Read.{read};
+ghost use Rattle.fork_folder.specs.Json.{IsBad, IsManifestIn, IsNoManifest, IsPackingIn, IsUnreadText};
 ghost use Rattle.fork_folder.specs.Manifest.{IsHexOf, Says, SaysFork};
 ghost use Rattle.fork_folder.specs.Packed.{listed};
 ghost use Rattle.fork_folder.specs.PackedAgain.{entry_of};
 ghost use Rattle.fork_folder.specs.Unpacked.{file_row, unpacked_file};
+ghost use Rattle.fork_folder.specs.declared.manifest.Manifest.{Manifest};
 ghost use Rattle.fork_folder.specs.declared.rows.PackFault.TheVariants.{BadEntry};
 ghost use Rattle.fork_folder.specs.Paths.{IsInFolder, IsRefusedPath, is_dots, is_end, is_inside, is_plain};
 
 use crate::files::File;
+use crate::json::manifest_in;
 use crate::rows::{Entry, Flaw, PackFault};
 use bitflags::Flags;
 use fork_bytes::table::Row;
@@ -19,14 +24,13 @@ use fork_list::{bytes_of, text_of};
 use hex::FromHex;
 use mac_base::name::Name;
 use mac_base::resource::{ResAttrs, ResType};
-use serde::{Deserialize, Serialize};
+use serde_json::Value;
 use std::alloc::{AllocError, Global};
 
 /// What the manifest says of a resource, whose bytes are those of the file of this path in the folder. Type and name are
 /// MacRoman, as UTF-8.
-#[derive(Debug, Drop, Serialize, Deserialize)]
+#[derive(Debug, Drop)]
 pub struct Resource {
-    #[serde(rename = "type")]
     pub kind: String,
     pub id: i16,
     pub name: Option<String>,
@@ -34,18 +38,37 @@ pub struct Resource {
     pub file: String,
 }
 
-/// What `resources.json` says, as it is written and read: a container with what it says of the file, and all of the
-/// fork but its resources' bytes. The dates count seconds as the container does. What packs a folder passes over the
-/// container.
-#[derive(Debug, Drop, Serialize, Deserialize)]
-pub struct Manifest {
+/// What is written of the file that a fork is from: its container, and what that says of it. The dates count seconds as
+/// the container does. What packs a folder passes over it.
+#[derive(Debug, Drop)]
+pub struct Origin {
     pub container: Option<String>,
-    #[serde(rename = "type")]
     pub kind: Option<String>,
     pub creator: Option<String>,
     pub flags: Option<u16>,
     pub created: Option<u32>,
     pub modified: Option<u32>,
+}
+
+impl Origin {
+    /// That of a file of which nothing is said.
+    pub fn nothing() -> Origin
+        ensures { result ≡ record { container = None; kind = None; creator = None; flags = None; created = None; modified = None } }
+    {
+        Origin {
+            container: None,
+            kind: None,
+            creator: None,
+            flags: None,
+            created: None,
+            modified: None,
+        }
+    }
+}
+
+/// What `resources.json` says of a fork: all but its resources' bytes.
+#[derive(Debug, Drop)]
+pub struct Manifest {
     /// The 240 bytes for the system and the application, in hexadecimal digits.
     pub extra: String,
     pub map_attributes: u16,
@@ -134,6 +157,7 @@ fn entry_of(alloc: Global, resource: Resource) -> Result<Entry, PackFault>
     ensures entry { IfOk result (λ entry. Says resource (listed entry)) }
     ensures inside { IfOk result IsInFolder }
     ensures outside { IfErr result IsRefusedPath }
+    ensures refused { (manifest : Manifest) → IfErr result (IsBad manifest) }
 {
     let Resource {
         kind,
@@ -198,16 +222,27 @@ fn extra_of(text: &str) -> Option<[u8; 240]>
     <[u8; 240] as FromHex>::from_hex(text).ok()
 }
 
+/// What a text says as JSON of a fork.
+fn manifest_by(alloc: Global, text: &str) -> Result<Manifest, PackFault>
+    ensures read { IfOk result (λ manifest. (datum : Data) × (read text.now ≡ Some datum) × IsManifestIn datum manifest) }
+    ensures refused { IfErr result (IsUnreadText text.now) }
+{
+    match Value::from_str(alloc, text) {
+        Ok(value) => manifest_in(alloc, &value),
+        Err(error) if error.is_memory() => Err(PackFault::HostFull),
+        Err(error) => Err(PackFault::BadManifest(error.to_string(alloc)?)),
+    }
+}
+
 /// What a text says that `unpack` wrote. An error says what isn't so, and in which file's entry. Each file is in a
 /// folder of the folder, and a path is refused only where it leads elsewhere.
 pub fn manifest_of(alloc: Global, text: &str) -> Result<Packing, PackFault>
+    ensures read { IfOk result (IsPackingIn text.now) }
+    ensures refused { IfErr result (IsNoManifest text.now) }
     ensures inside { IfOk result (λ packing. AllByRecursion IsInFolder packing.entries.items) }
     ensures outside { IfErr result IsRefusedPath }
 {
-    match serde_json::from_str::<Manifest>(alloc, text) {
-        Ok(manifest) => packing_of(alloc, manifest),
-        Err(error) => Err(PackFault::BadManifest(error.to_string(alloc)?)),
-    }
+    packing_of(alloc, manifest_by(alloc, text)?)
 }
 
 /// What is packed by a manifest.
@@ -215,6 +250,7 @@ fn packing_of(alloc: Global, manifest: Manifest) -> Result<Packing, PackFault>
     ensures inside { IfOk result (λ packing. AllByRecursion IsInFolder packing.entries.items) }
     ensures outside { IfErr result IsRefusedPath }
     ensures says { IfOk result (λ packing. SaysFork manifest packing.extra packing.map_attributes (map listed packing.entries.items)) }
+    ensures refused { IfErr result (IsBad manifest) }
 {
     let Some(extra) = extra_of(manifest.extra.as_str()) else {
         return Err(PackFault::BadExtra);

@@ -39,9 +39,12 @@ pub enum Flaw {
 /// Why a folder's files aren't packed.
 #[derive(Debug, Drop, Error)]
 pub enum PackFault {
-    /// The manifest is no JSON of the form that `unpack` writes: what is wrong, and where.
+    /// The manifest is no JSON: what is wrong, and where.
     #[error("it isn't what unpack writes: {0}")]
     BadManifest(String),
+    /// It is JSON, and this member, of the manifest or of a resource in it, is missing, or is no such value.
+    #[error("it isn't what unpack writes: `{0}` is missing, or isn't such as unpack writes")]
+    BadMember(&'static str),
     /// What it says of the resource in this file isn't so of any.
     #[error("what it says of the resource in {path} is bad: {what}", path = FileName(.file.as_str()))]
     BadEntry { file: String, what: Flaw },

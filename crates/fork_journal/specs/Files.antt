@@ -1,11 +1,13 @@
 -- The calls on a pair of files with their answers, and which answers an honest pair gives.
 use Rattle.std.specs.Prelude.{⊤, slice_index, IsTrue}
-use Rattle.std.proofs.Common.{◌≡◌, ℕ, zero, suc, Bool, true, false, List, [], ◌∷◌, length, take, refl, sym, ap, subst}
+use Rattle.std.proofs.Common.{◌≡◌, ℕ, zero, suc, Bool, true, false, List, [], ◌∷◌, length, take, refl, sym, ap, ap₂, subst, ◌∙◌}
+use Rattle.fork_disk.specs.Crash.{Finds}
 use Rattle.fork_disk.specs.Disk.{bytes_at, put_at, Torn, CutShort}
 use Rattle.fork_disk.specs.Record as files
 use Rattle.fork_journal.specs.declared.pair.Side.{Side}
 use Rattle.fork_journal.specs.declared.pair.Side.TheVariants.{Fork, Journal}
 use Rattle.fork_journal.specs.Crash.{Contents, History, Wrote, Cut, Synced, Failed, MayLeave, OnSide, side_of}
+use Rattle.fork_journal.specs.Recovery.{MayFind, settled_fork}
 
 -- the side of a number, as it is noted
 abbrev pub side_at : ℕ → Side
@@ -66,3 +68,8 @@ pub reads_outcome : (held : List files.Event → Contents) (calls : List files.E
 reads_outcome held [] honest = ((tt, λ _. refl), λ _. refl)
 reads_outcome held (e ∷ past) honest =
     step_outcome (files.call_of e) (side_in e) (files.number_of e) (files.is_done e) e.1 (held past) (held (e ∷ past)) (history_of held past) (reads_outcome held past honest.0) honest.1
+
+-- both files were synced, so as long as nothing was asked of the pair a start finds no other fork
+pub none_other : (held : List files.Event → Contents) (log : List files.Event) → log ≡ [] → Finds MayFind (λ found. found ≡ settled_fork (held log)) (history_of held log)
+none_other held log none = subst (λ (calls : List files.Event). Finds MayFind (λ found. found ≡ settled_fork (held calls)) (history_of held calls)) (sym none)
+    (λ found may. may.2 ∙ ap₂ (λ (fork journal : List ℕ). settled_fork (record { fork = fork; journal = journal })) (may.1.0.1 refl) (may.1.1 refl))

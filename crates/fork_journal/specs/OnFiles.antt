@@ -8,14 +8,14 @@ use Rattle.fork_journal.specs.declared.pair_world.PairWorld.{Ghosts}
 module _ {W : Type 0} (world : Ghosts W) where
   -- its bytes are those that its world gives after the calls on it
   abbrev pub contents_in : FilePair W world → Contents
-  contents_in pair = world.held pair.number pair.log.events
+  contents_in pair = world.held pair.run pair.number pair.log.events
 
   abbrev pub history_in : FilePair W world → History
-  history_in pair = history_of (world.held pair.number) pair.log.events
+  history_in pair = history_of (world.held pair.run pair.number) pair.log.events
 
   -- it is honest where both files were synced once they were open, and the answers of these calls are those of such
   -- files
   pub record IsHonestIn (pair : FilePair W world) : Type 0 where
     pub fork_synced : pair.fork.was_synced ≡ true
     pub journal_synced : pair.journal.was_synced ≡ true
-    pub answers : IsHonest (world.held pair.number) pair.log.events
+    pub answers : IsHonest (world.held pair.run pair.number) pair.log.events

@@ -23,13 +23,15 @@ use std::marker::PhantomData;
 pub struct FilePair<W: PairWorld> {
     fork: HostFile,
     journal: HostFile,
-    /// Which pair of the world it is. Only clauses read it.
+    /// In which run of the world it was opened. Only clauses read it.
+    run: u64,
+    /// Which pair of that run it is. Only clauses read it.
     number: u64,
     log: FileCalls,
     world: PhantomData<W>,
     ghost sides: { (side_at fork.which ≡ Fork) × (side_at journal.which ≡ Journal) },
-    ghost fork_trusted: { fork.is_spent ≡ false → has_failed Fork (history_of (W.held number) log.events) ≡ false },
-    ghost journal_trusted: { journal.is_spent ≡ false → has_failed Journal (history_of (W.held number) log.events) ≡ false },
+    ghost fork_trusted: { fork.is_spent ≡ false → has_failed Fork (history_of (W.held run number) log.events) ≡ false },
+    ghost journal_trusted: { journal.is_spent ≡ false → has_failed Journal (history_of (W.held run number) log.events) ≡ false },
 }
 
 impl<W: PairWorld> FilePair<W> {
@@ -37,10 +39,11 @@ impl<W: PairWorld> FilePair<W> {
     ghost use Rattle.fork_journal.specs.OnFiles.{contents_in, history_in};
 
     /// The pair of two files, which must not be the same one, and of which nothing was asked since they were opened, but
-    /// that each was synced. No other pair of this world may have its number.
-    pub fn new(fork: HostFile, journal: HostFile, number: u64) -> FilePair<W>
+    /// that each was synced. No other pair of this run may have its number.
+    pub fn new(fork: HostFile, journal: HostFile, run: u64, number: u64) -> FilePair<W>
         ensures fork { result.fork ≡ record fork { which = 0 } }
         ensures journal { result.journal ≡ record journal { which = 1 } }
+        ensures run { result.run ≡ run }
         ensures number { result.number ≡ number }
         ensures start { result.log.events ≡ [] }
         ensures settled { Leaves (λ c. c ≡ contents_in W.PairWorld result) (history_in W.PairWorld result) }
@@ -48,6 +51,7 @@ impl<W: PairWorld> FilePair<W> {
         FilePair {
             fork: fork.numbered(0),
             journal: journal.numbered(1),
+            run,
             number,
             log: FileCalls::new(),
             world: PhantomData,
@@ -66,7 +70,7 @@ impl<W: PairWorld> PairDisk for FilePair<W> {
 
     ghost failures = { λ pair. failed_calls pair.log.events };
 
-    ghost reads_is_outcome = { λ pair honest. reads_outcome (W.held pair.number) pair.log.events honest.answers };
+    ghost reads_is_outcome = { λ pair honest. reads_outcome (W.held pair.run pair.number) pair.log.events honest.answers };
 
     fn len(&mut self, side: Side) -> Result<u64, DiskFault>
         ensures measures { IsHonestIn W.PairWorld self.new → MeasuresSide (contents_in W.PairWorld) (history_in W.PairWorld) (IsHonestIn W.PairWorld) self.old self.new side result }
@@ -117,6 +121,7 @@ impl<W: PairWorld> PairDisk for FilePair<W> {
         ensures syncs { IsHonestIn W.PairWorld self.new → SyncsSide (contents_in W.PairWorld) (history_in W.PairWorld) (IsHonestIn W.PairWorld) self.old self.new side result }
         ensures cause { Counts (failed_calls self.old.log.events) (failed_calls self.new.log.events) result }
         ensures noted { self.new.log.events ≡ sync_event (file_on side self.old.fork self.old.journal).which result ∷ self.old.log.events }
+        ensures run { self.new.run ≡ self.old.run }
         ensures number { self.new.number ≡ self.old.number }
         ensures still { OnOk result ((file_on side self.new.fork self.new.journal).is_spent ≡ false) }
     {

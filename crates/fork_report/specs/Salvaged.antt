@@ -1,5 +1,5 @@
 -- What is salvaged of files.
-use Rattle.std.specs.Prelude.{◌≡◌, ◌≢◌, ◌⊎◌, ℕ, ◌<◌, true, false, List, [], length, Option, None, Some, string_bytes}
+use Rattle.std.specs.Prelude.{◌≡◌, ◌≢◌, ◌⊎◌, ℕ, ◌<◌, Bool, true, false, List, [], length, Option, None, Some, string_bytes}
 use Rattle.mac_files.specs.declared.fault.Fork.{Fork}
 use Rattle.mac_files.specs.declared.fault.Fork.TheVariants as which
 use Rattle.mac_files.specs.declared.kind.FileKind.{FileKind}
@@ -9,6 +9,7 @@ use Rattle.mac_salvage.specs.declared.file.FileLeft.{FileLeft}
 use Rattle.mac_salvage.specs.InSpite.{Left, container_fault, fault_by, forks_by, forks_in_spite, kind_by}
 use Rattle.mac_salvage.specs.Texts.{is_shut}
 use Rattle.fork_list.specs.declared.letters.Letters.{Letters}
+use Rattle.fork_answer.specs.declared.answer.Failure.TheVariants as failure
 use Rattle.fork_answer.specs.declared.source.NoFork.{NoFork}
 use Rattle.fork_answer.specs.declared.source.NoFork.TheVariants as no_fork
 use Rattle.fork_answer.specs.Lines.{salvage_listing}
@@ -119,6 +120,15 @@ IsNotSalvaged file refusal.Nothing = HasNothing IsUnreadable file None
 IsNotSalvaged file (refusal.NothingLeft damage) = HasNothing IsUnreadable file (Some damage)
 IsNotSalvaged file refusal.TooMuch = (left : Left) × ((forks_in_spite file).resource_fork ≡ Some left) × IsTooBig left.bytes
 IsNotSalvaged file other = IsNotLeft file other
+
+-- the host has no memory to say why a file is refused
+abbrev pub is_host_full : Refusal → Bool
+is_host_full (refusal.Show failure.HostFull) = true
+is_host_full other = false
+
+-- nothing of the resource fork can be salvaged, for a cause that isn't want of memory
+abbrev pub CantBeSalvaged : List ℕ → Type 0
+CantBeSalvaged file = (why : Refusal) × (is_host_full why ≡ false) × IsNotSalvaged file why
 
 -- the bytes of the data fork that are handed out
 abbrev pub bytes_or_none : Option Left → List ℕ

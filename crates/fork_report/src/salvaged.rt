@@ -4,7 +4,7 @@
 ghost use Rattle.std.specs.Prelude.{◌≡◌, ◌≢◌, [], IfErr, IfOk, IsTrue, None, Some, false};
 ghost use Rattle.mac_salvage.specs.InSpite.{fault_by, forks_by, forks_in_spite, kind_by, left_by};
 ghost use Rattle.fork_report.specs.Damage.{IsDamaged, is_readable, tally_of};
-ghost use Rattle.fork_report.specs.Salvaged.{CanBeSalvaged, HasLeft, IsDataNotSalvaged, IsNotKept, IsNotLeft, IsNotListed, IsNotSalvaged, Lists, Salvages, SalvagesData, TellsLeft, damage_by, data_by, lack_by, nothing_left};
+ghost use Rattle.fork_report.specs.Salvaged.{CanBeSalvaged, CantBeSalvaged, HasLeft, IsDataNotSalvaged, IsNotKept, IsNotLeft, IsNotListed, IsNotSalvaged, Lists, Salvages, SalvagesData, TellsLeft, damage_by, data_by, is_host_full, lack_by, nothing_left};
 
 use crate::damage::{MOST_FOUND, Tally, tally_of};
 use crate::refusal::{Refusal, other_than_fork};
@@ -16,7 +16,7 @@ use mac_files::fault::Fork;
 use mac_files::kind::FileKind;
 use mac_files::old_file::FileFault;
 use mac_salvage::{FileLeft, ForkLeft, open_in_spite};
-use std::alloc::Global;
+use std::alloc::{AllocError, Global};
 use std::fmt;
 
 /// The first fault of a file's container, in spite of which a fork is read, as far as its bytes are there.
@@ -230,20 +230,41 @@ pub fn salvage(alloc: Global, bytes: &[u8]) -> Result<ForkSalvaged, Refusal>
     }
 }
 
-/// Whether a file's resource fork is there in spite of a fault of its container, and some resource of it can be read, or
-/// it has no fault itself.
-pub fn can_be_salvaged(alloc: Global, bytes: &[u8]) -> bool
-    ensures { IsTrue result → CanBeSalvaged bytes.now }
+/// How much can be read of a file's resource fork, which is there in spite of a fault of its container; None where it has
+/// no fault itself.
+#[tactic(auto, using(crate::proofs::Salvaging::kept_not_salvaged, crate::proofs::Salvaging::not_salvaged))]
+fn left_in(alloc: Global, bytes: &[u8]) -> Result<Option<Tally>, Refusal>
+    ensures left { IfOk result (λ tally. CanBeSalvaged bytes.now) }
+    ensures refused { IfErr result (IsNotSalvaged bytes.now) }
 {
-    let Ok(file) = file_left(alloc, bytes) else {
-        return false;
-    };
-    let Ok(fork) = fork_of(alloc, &file, bytes) else {
-        return false;
-    };
-    match left_of(alloc, fork.bytes, None) {
-        Ok(_tally) => true,
-        Err(_) => false,
+    let file = file_left(alloc, bytes)?;
+    let fork = fork_of(alloc, &file, bytes)?;
+    let damage = damage_by(&file, Fork::Resource, &fork);
+    left_of(alloc, fork.bytes, damage)
+}
+
+/// Whether the host has no memory to say why a file is refused.
+fn is_host_full(refusal: &Refusal) -> bool
+    ensures { result ≡ is_host_full refusal.now }
+{
+    matches!(refusal, Refusal::Show(Failure::HostFull))
+}
+
+/// Whether a file's resource fork is there in spite of a fault of its container, and some resource of it can be read, or
+/// it has no fault itself. The only error is that the host has no memory.
+pub fn can_be_salvaged(alloc: Global, bytes: &[u8]) -> Result<bool, AllocError>
+    ensures yes { IfOk result (λ can. IsTrue can → CanBeSalvaged bytes.now) }
+    ensures no { IfOk result (λ can. can ≡ false → CantBeSalvaged bytes.now) }
+{
+    match left_in(alloc, bytes) {
+        Ok(_tally) => Ok(true),
+        Err(refusal) => {
+            if is_host_full(&refusal) {
+                Err(AllocError)
+            } else {
+                Ok(false)
+            }
+        }
     }
 }
 

@@ -7,6 +7,7 @@ use Rattle.file_replace.specs.declared.calls.HeldCall.TheVariants as held
 use Rattle.file_replace.specs.declared.calls.Call.TheVariants as calls
 use Rattle.file_replace.specs.declared.destination.Destination.{Destination}
 use Rattle.file_replace.specs.declared.destination.Destination.TheVariants as destinations
+use Rattle.file_replace.specs.declared.destination.OpenStream.{OpenStream}
 use Rattle.file_replace.specs.declared.held.Held.{Held}
 use Rattle.file_replace.specs.declared.host_place.There.{There}
 use Rattle.file_replace.specs.declared.host_place.There.TheVariants as places
@@ -47,15 +48,15 @@ made_of there path has rights names bytes prepared.Unchanged old new made = made
 made_of there path has rights names bytes (prepared.File file) old new made = (rights, made.2.1.0.0, made.2.1.0.1.1)
 made_of there path has rights names bytes (prepared.Stream stream) old new made = absurd made
 
-for_stream : {F : Type 0} (bytes : List ℕ) (p : Prepared F) → IsForStream bytes p → IsOf bytes p
-for_stream bytes prepared.Unchanged is = absurd is
-for_stream bytes (prepared.File file) is = absurd is
-for_stream bytes (prepared.Stream stream) is = is
+for_stream : {F : Type 0} (to : OpenStream) (bytes : List ℕ) (p : Prepared F) → IsForStream to bytes p → IsOf bytes p
+for_stream to bytes prepared.Unchanged is = absurd is
+for_stream to bytes (prepared.File file) is = absurd is
+for_stream to bytes (prepared.Stream stream) is = is.1
 
 prepared_of : {F : Type 0} (there : HeldAt) (to : Destination) (bytes : List ℕ) (p : Prepared F) (old new : List HeldCall) → PreparesAt there to bytes (Ok p) old new → IsOf bytes p
 prepared_of there (destinations.Existing it) bytes p old new made = made_of there (path_buf_bytes it.path) (places.This it.file) (Some it.rights) it.names bytes p old new made
 prepared_of there (destinations.New it) bytes p old new made = made_of there (path_buf_bytes it.path) places.Nothing None 1 bytes p old new made
-prepared_of there (destinations.Stream stream) bytes p old new made = for_stream bytes p made.0
+prepared_of there (destinations.Stream stream) bytes p old new made = for_stream stream bytes p made.0
 
 pub prepared_if : {F : Type 0} (there : HeldAt) (to : Destination) (bytes : List ℕ) (result : Result (Prepared F) NotReplaced) (old new : List HeldCall) → PreparesAt there to bytes result old new
     → IfOk result (IsOf bytes)
@@ -84,7 +85,7 @@ all_good bytes [] put = absurd put
 all_good bytes (held.Asked asked ∷ past) put = absurd put.0
 all_good bytes (held.OpenFolder wanted is_done ∷ past) put = absurd put.0
 all_good bytes (held.Put path at ∷ past) put = ((bytes, put.0), put.1)
-all_good bytes (held.Stream is_done out ∷ past) put = (put.0.0, put.1)
+all_good bytes (held.Stream path is_done out ∷ past) put = (put.0.0, put.1)
 
 in_turn : {F G : Type 0} (there also : HeldAt) (bytes others : List ℕ) (p : Prepared F) (q : Prepared G) (outcomes : Outcome × Outcome) (old new : List HeldCall) → IsOf bytes p → IsOf others q
     → PutsInTurn there also p q (Ok outcomes) old new → AreGood old → ArePut others new

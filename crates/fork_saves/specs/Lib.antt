@@ -1,3 +1,4 @@
 pub mod Saving
 pub mod Changing
 pub mod Order
+pub mod Lasting

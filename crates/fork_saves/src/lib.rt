@@ -4,6 +4,7 @@
 
 pub mod change;
 pub mod convert;
+pub mod laws;
 mod order;
 mod ready;
 pub mod save;

@@ -1,5 +1,5 @@
 -- Resources that can't be shown in a form.
-use Rattle.std.proofs.Common.{◌≡◌, ◌⊎◌, inl, inr, ℕ, Bool, true, false, if◌then◌else◌, Option, None, Some, Err, subst, sym}
+use Rattle.std.proofs.Common.{◌≡◌, ◌⊎◌, inl, inr, ℕ, List, Bool, true, false, if◌then◌else◌, Option, None, Some, Err, subst, sym}
 use Rattle.std.specs.Option.{option_map_or}
 use Rattle.fork_bytes.specs.Rows.{Row}
 use Rattle.fork_list.specs.Compressed.{unpacked_length}
@@ -37,9 +37,9 @@ reason (Some Png) row why is = by_length (unpacked_length row.attributes.0 row.d
 reason (Some Text) row why is = by_length (unpacked_length row.attributes.0 row.datum) (Some Text) row why is
 
 -- such a resource isn't shown
-pub shows_none : (form : Option ShowAs) (row : Row) (why : NotShown) → why_untold form row ≡ Some why → ShowsRow form row (Err why)
-shows_none form row why is =
-    let P : NotShown → Type 0 = λ why. why_untold form row ≡ Some why → ShowsRow form row (Err why) in
+pub shows_none : (form : Option ShowAs) (rows : List Row) (row : Row) (why : NotShown) → why_untold form row ≡ Some why → ShowsRow form rows row (Err why)
+shows_none form rows row why is =
+    let P : NotShown → Type 0 = λ why. why_untold form row ≡ Some why → ShowsRow form rows row (Err why) in
     elim (reason form row why is) [
       | inl early ↦ subst P (sym early) (λ is. is) is
       | inr packed ↦ subst P (sym packed.1) (λ is. is) is

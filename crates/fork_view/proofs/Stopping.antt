@@ -171,15 +171,15 @@ manifest_stops folder files text old start middle new is made stops =
     stops_after (all_calls folder files text old) done old new (follows done first old (follows_files None files first) (opened_follows folder old)) there
 
 -- with a text as the manifest
-pub unpacks_by : {T E : Type 0} (folder : List ℕ) (files : List Unpacked) (text : List ℕ) (result : Result T E) (old new : List Event)
-    → Makes result (all_calls folder files text old) old new → Unpacks folder files result old new
-unpacks_by folder files text (Ok value) old new makes = (text, makes)
-unpacks_by folder files text (Err error) old new makes = inr (text, makes)
+unpacks_by : {T E : Type 0} (folder : List ℕ) (files : List Unpacked) (text : List ℕ) (result : Result T E) (old new : List Event) (says : List ℕ → Type 0)
+    → says text → Makes result (all_calls folder files text old) old new → Unpacks folder files says result old new
+unpacks_by folder files text (Ok value) old new says said makes = (text, said, makes)
+unpacks_by folder files text (Err error) old new says said makes = inr (text, said, makes)
 
-pub unpacks_with : {T E : Type 0} (folder : List ℕ) (files given : List Unpacked) (text : List ℕ) (result : Result T E) (old new : List Event)
-    → given ≡ files → Makes result (all_calls folder given text old) old new → Unpacks folder files result old new
-unpacks_with folder files given text result old new same makes =
-    unpacks_by folder files text result old new (subst (λ (fs : List Unpacked). Makes result (all_calls folder fs text old) old new) same makes)
+pub unpacks_with : {T E : Type 0} (folder : List ℕ) (files given : List Unpacked) (text : List ℕ) (result : Result T E) (old new : List Event) (says : List ℕ → Type 0)
+    → given ≡ files → says text → Makes result (all_calls folder given text old) old new → Unpacks folder files says result old new
+unpacks_with folder files given text result old new says same said makes =
+    unpacks_by folder files text result old new says said (subst (λ (fs : List Unpacked). Makes result (all_calls folder fs text old) old new) same makes)
 
 -- the manifest is made or not
 pub manifest_by : {T E : Type 0} (result : Result T E) (folder : List ℕ) (files : List Unpacked) (text : List ℕ) (old start middle new : List Event)

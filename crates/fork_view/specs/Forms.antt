@@ -1,10 +1,16 @@
 -- In which forms a resource can be shown.
-use Rattle.std.specs.Prelude.{ℕ, ◌||◌, if◌then◌else◌, Bool, false, List, codes, bytes_eq, Option, is_none, option_map, option_and_then}
+use Rattle.std.specs.Prelude.{ℕ, ◌||◌, if◌then◌else◌, Bool, false, List, codes, bytes_eq, Option, None, Some, is_none, option_map}
+use Rattle.std.specs.Result.{result_ok}
+use Rattle.fork_answer.specs.Answer.{wanted_row}
 use Rattle.fork_bytes.specs.Rows.{Row}
+use Rattle.fork_list.specs.declared.find.Key.TheVariants.{Id}
 use Rattle.fork_list.specs.Strings.{string_of, strings_of}
 use Rattle.fork_list.specs.Versions.{version_of}
-use Rattle.fork_view.specs.Formats.{format_of, picture_of}
-use Rattle.fork_view.specs.Png.{png_of}
+use Rattle.fork_pictures.specs.declared.kind.Kind.{Kind}
+use Rattle.fork_pictures.specs.Image.{Image}
+use Rattle.fork_pictures.specs.Kinds.{kind_of, mask_type}
+use Rattle.fork_pictures.specs.Layouts.{picture_of}
+use Rattle.fork_pictures.specs.Png.{png_of}
 
 -- resources of a type that are texts
 abbrev pub is_text : List ℕ → Bool
@@ -18,6 +24,16 @@ ends_early row =
     else if bytes_eq row.kind (codes "vers") then is_none (version_of row.datum)
     else false
 
+-- the bytes of the resource that has the mask of an icon in colour: it has the same id
+abbrev pub mask_in : List Row → Row → Option (List ℕ) → Option (List ℕ)
+mask_in rows row None = None
+mask_in rows row (Some kind) = option_map (λ other. other.datum) (wanted_row (record { kind = kind; key = Id row.id; nth = 0 }) rows)
+
+-- the picture that a resource is, if its bytes are one
+abbrev pub drawn_as : List Row → Row → Option Kind → Option Image
+drawn_as rows row None = None
+drawn_as rows row (Some kind) = result_ok (picture_of kind row.datum (mask_in rows row (mask_type kind)))
+
 -- the picture that a resource is, as a PNG file
-abbrev pub picture_file : Row → Option (List ℕ)
-picture_file row = option_map png_of (option_and_then (λ format. picture_of format row.datum) (format_of row.kind))
+abbrev pub picture_file : List Row → Row → Option (List ℕ)
+picture_file rows row = option_map png_of (drawn_as rows row (kind_of row.kind))

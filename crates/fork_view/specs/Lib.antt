@@ -1,10 +1,3 @@
-pub mod Dots
-pub mod Image
-pub mod Formats
-pub mod Checks
-pub mod Png
-pub mod Reader
-pub mod Laws
 pub mod Forms
 pub mod Sights
 pub mod Unpacking

@@ -16,9 +16,9 @@ use Rattle.fork_view.specs.declared.view.Untold.{Untold}
 use Rattle.fork_view.specs.Forms.{ends_early, picture_file}
 
 -- a resource that is a picture is shown as one, unless another form is asked for
-abbrev pub IsShownAs : Option ShowAs → Row → Bool → List ℕ → Type 0
-IsShownAs form row true bytes = ((form ≡ None) ⊎ (form ≡ Some Png)) × (picture_file row ≡ Some bytes)
-IsShownAs form row false bytes = (form ≢ Some Png) × (form ≡ None → picture_file row ≡ None)
+abbrev pub IsShownAs : Option ShowAs → List Row → Row → Bool → List ℕ → Type 0
+IsShownAs form rows row true bytes = ((form ≡ None) ⊎ (form ≡ Some Png)) × (picture_file rows row ≡ Some bytes)
+IsShownAs form rows row false bytes = (form ≢ Some Png) × (form ≡ None → picture_file rows row ≡ None)
 
 -- why a resource can't be shown as text: it ends too early
 abbrev pub why_no_text : Option ShowAs → Row → Option NotShown
@@ -50,13 +50,13 @@ abbrev pub untold_in : Option (List ℕ) → Option ShowAs → Row → List Unto
 untold_in kind form row = if is_of_kind kind row.kind then untold_of form row else []
 
 -- what is shown of one resource, or why it isn't: it is compressed, or no picture, or its text ends too early
-abbrev pub ShowsRow : Option ShowAs → Row → Result Sight NotShown → Type 0
-ShowsRow form row (Ok sight) = IsShownAs form row sight.is_picture sight.bytes.items × (why_untold form row ≡ None) × (sight.untold.items ≡ [])
-ShowsRow form row (Err (unshown.NoPicture kind)) = (form ≡ Some Png) × (picture_file row ≡ None) × (kind ≡ row.kind)
-ShowsRow form row (Err unshown.NoText) = why_untold form row ≡ Some unshown.NoText
-ShowsRow form row (Err (unshown.Compressed length)) = why_untold form row ≡ Some (unshown.Compressed length)
-ShowsRow form row (Err unshown.HostFull) = ⊤
-ShowsRow form row (Err other) = ⊥
+abbrev pub ShowsRow : Option ShowAs → List Row → Row → Result Sight NotShown → Type 0
+ShowsRow form rows row (Ok sight) = IsShownAs form rows row sight.is_picture sight.bytes.items × (why_untold form row ≡ None) × (sight.untold.items ≡ [])
+ShowsRow form rows row (Err (unshown.NoPicture kind)) = (form ≡ Some Png) × (picture_file rows row ≡ None) × (kind ≡ row.kind)
+ShowsRow form rows row (Err unshown.NoText) = why_untold form row ≡ Some unshown.NoText
+ShowsRow form rows row (Err (unshown.Compressed length)) = why_untold form row ≡ Some (unshown.Compressed length)
+ShowsRow form rows row (Err unshown.HostFull) = ⊤
+ShowsRow form rows row (Err other) = ⊥
 
 -- what is shown of several, which is text, with those that can't be shown so, each of them; or why nothing is
 abbrev pub ShowsRows : Option (List ℕ) → Option ShowAs → List Row → Result Sight NotShown → Type 0
@@ -66,11 +66,11 @@ ShowsRows kind form rows (Err unshown.HostFull) = ⊤
 ShowsRows kind form rows (Err other) = ⊥
 
 -- what is shown of the one that is asked for, if the rows have it
-abbrev pub ShowsFound : Option ShowAs → Option Row → Result Sight NotShown → Type 0
-ShowsFound form None result = result ≡ Err unshown.NotFound
-ShowsFound form (Some row) result = ShowsRow form row result
+abbrev pub ShowsFound : Option ShowAs → List Row → Option Row → Result Sight NotShown → Type 0
+ShowsFound form rows None result = result ≡ Err unshown.NotFound
+ShowsFound form rows (Some row) result = ShowsRow form rows row result
 
 abbrev pub ShowsChosen : Chosen → Option ShowAs → List Row → Result Sight NotShown → Type 0
-ShowsChosen (chosen.One wanted) form rows result = ShowsFound form (wanted_row wanted rows) result
+ShowsChosen (chosen.One wanted) form rows result = ShowsFound form rows (wanted_row wanted rows) result
 ShowsChosen chosen.All form rows result = ShowsRows None form rows result
 ShowsChosen (chosen.Kind kind) form rows result = ShowsRows (Some kind) form rows result

@@ -1,13 +1,18 @@
 //! The bytes of a resource as text, in hexadecimal digits, and as a picture.
 
-ghost use Rattle.std.specs.Prelude.{◌≡◌, IfOk, false, option_map, string_bytes};
-ghost use Rattle.fork_view.specs.Forms.{ends_early, is_text, picture_file};
+ghost use Rattle.std.specs.Prelude.{◌≡◌, IfOk, false, option_copied, option_map, string_bytes};
+ghost use Rattle.fork_view.specs.Forms.{drawn_as, ends_early, is_text, mask_in, picture_file};
 
-use crate::{format_of, picture_of, png_file};
 use fork_bytes::table::Row;
-use fork_list::char_of;
+use fork_list::find::{Key, Wanted};
 use fork_list::strings::{string_of, strings_of};
 use fork_list::version::{Stage, Version, version_of};
+use fork_list::{char_of, find_row};
+use fork_pictures::fault::NotDrawn;
+use fork_pictures::kind::Kind;
+use fork_pictures::picture::Picture;
+use fork_pictures::{kind_of, picture_of, png_file};
+use mac_base::resource::ResType;
 use std::alloc::{AllocError, Global};
 
 /// How many bytes a line of hexadecimal digits shows.
@@ -169,14 +174,46 @@ pub(crate) fn push_hex(text: &mut String, bytes: &[u8]) -> Result<(), AllocError
     Ok(())
 }
 
-/// The PNG file of a resource, or None where it is no picture.
-pub(crate) fn png_of(alloc: Global, row: &Row) -> Result<Option<Vec<u8>>, AllocError>
-    ensures { IfOk result (λ file. option_map (λ bytes. bytes.items) file ≡ picture_file row.now) }
+/// The bytes of the resource that has the mask of an icon in colour: it has the same id.
+fn mask_in<'a>(rows: &[Row<'a>], row: &Row, kind: Option<[u8; 4]>) -> Option<&'a [u8]>
+    ensures { option_copied result ≡ mask_in rows.now row.now kind }
 {
-    let Some(format) = format_of(row.kind.bytes()) else {
+    let wanted = Wanted {
+        kind: ResType::new(kind?),
+        key: Key::Id(row.id),
+        nth: 0,
+    };
+    match find_row(rows, &wanted) {
+        Some(other) => Some(other.datum.as_slice()),
+        None => None,
+    }
+}
+
+/// The picture that a resource is, or None where its bytes are none.
+fn drawn_as(
+    alloc: Global,
+    rows: &[Row],
+    row: &Row,
+    kind: Option<Kind>,
+) -> Result<Option<Picture>, AllocError>
+    ensures { IfOk result (λ picture. picture ≡ drawn_as rows.now row.now kind) }
+{
+    let Some(kind) = kind else {
         return Ok(None);
     };
-    match picture_of(alloc, format, row.datum.as_slice())? {
+    let mask = mask_in(rows, row, kind.mask_type());
+    match picture_of(alloc, kind, row.datum.as_slice(), mask) {
+        Ok(picture) => Ok(Some(picture)),
+        Err(NotDrawn::Fault(_)) => Ok(None),
+        Err(NotDrawn::HostFull) => Err(AllocError),
+    }
+}
+
+/// The PNG file of a resource, or None where it is no picture.
+pub(crate) fn png_of(alloc: Global, rows: &[Row], row: &Row) -> Result<Option<Vec<u8>>, AllocError>
+    ensures { IfOk result (λ file. option_map (λ bytes. bytes.items) file ≡ picture_file rows.now row.now) }
+{
+    match drawn_as(alloc, rows, row, kind_of(row.kind.bytes()))? {
         Some(picture) => Ok(Some(png_file(alloc, &picture)?)),
         None => Ok(None),
     }

@@ -3,9 +3,9 @@
 ghost use Rattle.std.specs.Prelude.{◌≡◌, None, IfOk, codes, map, option_map};
 ghost use Rattle.new_folder.specs.NewFolder.{Makes, with_file, with_folder};
 ghost use Rattle.fork_folder.specs.Unpacked.{unpacked, unpacked_file};
-ghost use Rattle.fork_view.specs.Unpacking.{Unpacks, all_calls, entered, files_calls, opened_folder, with_unpacked};
+ghost use Rattle.fork_view.specs.Unpacking.{IsManifestText, Unpacks, all_calls, entered, files_calls, opened_folder, with_unpacked};
 
-use crate::manifest::manifest_of;
+use crate::manifest::text_of_all;
 use fork_bytes::table::Table;
 use fork_folder::files::File as Unpacked;
 use fork_folder::unpacked;
@@ -213,7 +213,8 @@ fn write_files<'a>(
 }
 
 /// Writes the resources of a table to a new folder or an empty one, and at last `resources.json`: where that is, all is
-/// there. A folder that is there must be empty, and no other user's in which others may write. Each folder of a type and
+/// there. That says what the file is, and all of its fork but the bytes of those resources. A folder that is there must
+/// be empty, and no other user's in which others may write. Each folder of a type and
 /// each file is made anew, in the folder that is open; what is there already is refused, and no link is followed. Each
 /// call of the system is noted with its answer, in a record that only clauses read.
 pub fn unpack(
@@ -223,14 +224,11 @@ pub fn unpack(
     table: &Table<'_>,
     log: &mut FolderCalls,
 ) -> Result<(), NotUnpacked>
-    ensures { Unpacks unpacking.now.folder.now (unpacked unpacking.now.kinds.items table.now.rows) result log.old.events log.new.events }
+    ensures { Unpacks unpacking.now.folder.now (unpacked unpacking.now.kinds.items table.now.rows) (IsManifestText file.now unpacking.now.kinds.items table.now) result log.old.events log.new.events }
 {
     let alloc = rt.alloc();
     let files = unpacked(alloc, unpacking.kinds.as_slice(), table.rows.as_slice())?;
     let listed = files.as_slice();
-    let manifest = manifest_of(alloc, file, table, listed)?;
-    let Ok(text) = serde_json::to_string_pretty(alloc, &manifest) else {
-        return Err(NotUnpacked::HostFull);
-    };
+    let text = text_of_all(alloc, file, table, listed)?;
     write_files(rt, unpacking.folder, listed, text.as_str(), log)
 }

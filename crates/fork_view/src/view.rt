@@ -44,7 +44,7 @@ pub enum NotShown {
     #[error("the fork has no such resource")]
     NotFound,
     /// One of this type can't be a PNG file.
-    #[error("this {kind} is no picture that is written as a PNG file: such are 'ICON', 'ICN#', 'ics#', 'CURS' and 'SICN', as long as these are; --as hex writes hexadecimal digits, and --as text its bytes as text", kind = Quoted::single(Letters::Roman, &.0.bytes()))]
+    #[error("this {kind} is no picture that is written as a PNG file: such are icons, cursors, patterns and tables of colours whose bytes are right; --as hex writes hexadecimal digits, and --as text its bytes as text", kind = Quoted::single(Letters::Roman, &.0.bytes()))]
     NoPicture(ResType),
     /// It can't be text.
     #[error("it ends before its texts do; --as hex shows its bytes")]
@@ -152,15 +152,20 @@ fn push_title(text: &mut String, row: &Row) -> Result<(), AllocError> {
     writeln!(text, "{kind} {id}{name}")
 }
 
-/// One resource, as it is shown.
-fn sight_of_row(alloc: Global, row: &Row, form: Option<ShowAs>) -> Result<Sight, NotShown>
-    ensures { ShowsRow form row.now result }
+/// One resource, as it is shown. An icon in colour has the mask of another of the rows.
+fn sight_of_row(
+    alloc: Global,
+    rows: &[Row],
+    row: &Row,
+    form: Option<ShowAs>,
+) -> Result<Sight, NotShown>
+    ensures { ShowsRow form rows.now row.now result }
 {
     if let Some(why) = why_untold(alloc, row, form)? {
         return Err(why);
     }
     if (form.is_none() || form == Some(ShowAs::Png))
-        && let Some(bytes) = png_of(alloc, row)?
+        && let Some(bytes) = png_of(alloc, rows, row)?
     {
         return Ok(Sight {
             bytes,
@@ -278,7 +283,7 @@ pub fn sight_of(alloc: Global, view: &View, rows: &[Row]) -> Result<Sight, NotSh
         Chosen::All => sight_of_rows(alloc, rows, None, view.form),
         Chosen::Kind(kind) => sight_of_rows(alloc, rows, Some(*kind), view.form),
         Chosen::One(wanted) => match find_row(rows, wanted) {
-            Some(row) => sight_of_row(alloc, row, view.form),
+            Some(row) => sight_of_row(alloc, rows, row, view.form),
             None => Err(NotShown::NotFound),
         },
     }

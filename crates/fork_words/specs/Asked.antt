@@ -1,5 +1,5 @@
 -- What each command asks for: which word gives what.
-use Rattle.std.specs.Prelude.{◌≡◌, ℕ, true, false, if◌then◌else◌, List, Option, None, Some, codes, option_map}
+use Rattle.std.specs.Prelude.{◌≡◌, ◌⊎◌, ℕ, true, false, if◌then◌else◌, List, Option, None, Some, codes, option_map, ⊤}
 use Rattle.clap.specs.Matches.{first_value, subcommand_name_of}
 use Rattle.clap.specs.Simple.{subcommand_rows_of}
 use Rattle.clap.specs.Walk.{rows_of}
@@ -36,6 +36,7 @@ use Rattle.fork_words.specs.declared.asked.Showing.{Showing}
 use Rattle.fork_words.specs.declared.asked.Titles.{Titles}
 use Rattle.fork_words.specs.declared.asked.Titles.TheVariants as titles
 use Rattle.fork_words.specs.declared.asked.Viewing.{Viewing}
+use Rattle.fork_words.specs.declared.size.TheConstants.{LIMIT}
 
 -- how letters that aren't ASCII are shown
 abbrev pub letters_of : Found → Letters
@@ -140,3 +141,12 @@ abbrev pub IsAskedBy : ArgMatches → Command → Type 0
 IsAskedBy matches command = (name : List ℕ) × (found : Found) × (subcommand_name_of matches ≡ Some name)
     × (option_map (λ met. met.1) (subcommand_rows_of matches) ≡ Some (rows_of found))
     × IsLimit (first_value found (codes "limit")) command.limit × Asks name found command.asked
+
+-- the help or the version is asked for
+abbrev pub IsTold : Asked → Type 0
+IsTold (asked.Tell told) = ⊤
+IsTold other = ⊥
+
+-- what is asked for: the help or the version, with the usual limit; or what a command that was met asks for
+abbrev pub IsAsked : Command → Type 0
+IsAsked command = (IsTold command.asked × (command.limit ≡ LIMIT)) ⊎ ((matches : ArgMatches) × IsAskedBy matches command)

@@ -2,7 +2,7 @@
 
 ghost use Rattle.std.specs.Prelude.{◌≡◌, ℕ, true, false, IfErr, IfOk, List, codes};
 ghost use Rattle.clap.specs.Matches.{first_value, found_of};
-ghost use Rattle.fork_words.specs.Asked.{Asks, IsAskedBy, IsChosen, IsReport, IsReporting, IsRequest, IsShowing, IsShownBytes, digests_of, letters_of, titles_of};
+ghost use Rattle.fork_words.specs.Asked.{Asks, IsAsked, IsAskedBy, IsChosen, IsReport, IsReporting, IsRequest, IsShowing, IsShownBytes, IsTold, digests_of, letters_of, titles_of};
 ghost use Rattle.fork_words.specs.Asks.{IsFault, IsFit};
 ghost use Rattle.fork_words.specs.Changes.{form_of};
 ghost use Rattle.fork_words.specs.Given.{is_given, texts_of, word_of, word_or, words_of};
@@ -146,6 +146,7 @@ impl From<Fault> for NotAsked {
 
 /// What the words ask for, of which the first is the program's name.
 pub fn asked_by<'a, S: AsStr>(alloc: Global, words: &'a [S]) -> Result<Command<'a>, NotAsked>
+    ensures asked { IfOk result IsAsked }
     ensures fit { IfOk result (λ command. IsFit command.asked) }
     ensures fault { IfErr result IsFault }
 {
@@ -497,6 +498,7 @@ fn nth_named(word: &str) -> Result<usize, Fault>
 
 /// What it means that the words don't match.
 fn not_matched<'a>(error: clap::Error) -> Result<Asked<'a>, NotAsked>
+    ensures tell { IfOk result IsTold }
     ensures fit { IfOk result IsFit }
     ensures fault { IfErr result IsFault }
 {

@@ -3,7 +3,7 @@ use Rattle.std.specs.Prelude.{◌≡◌, ◌⊎◌, ℕ, Bool, true, false, List
 use Rattle.std.specs.Path.{path_buf_bytes}
 use Rattle.std.specs.declared.fs.File.{File}
 use Rattle.host_paths.specs.declared.beside.Beside.{Beside}
-use Rattle.host_paths.specs.declared.host.HostCall.TheVariants.{Lock, Make, Remove}
+use Rattle.host_paths.specs.declared.host.HostCall.TheVariants.{Lock, Make}
 use Rattle.host_paths.specs.declared.host.Locking.TheVariants.{Taken, Busy, NotOffered}
 use Rattle.host_paths.specs.Asked.{CantTell, LeadsTo, Log}
 use Rattle.host_paths.specs.Naming.{path_beside}
@@ -43,8 +43,3 @@ MakesAt is_private path (Err error) old new = (new ≡ old) ⊎ (new ≡ Make (m
 -- the last calls made this file, beside this path
 abbrev pub MakesBeside : List ℕ → Bool → Beside → Log → Type 0
 MakesBeside path is_private beside new = (number : ℕ) × (past : Log) × IsMade (path_beside path number) is_private beside past new
-
--- the file at this path was removed, or it is done since there was none
-abbrev pub RemovesAt : {T E : Type 0} → List ℕ → Result T E → Log → Log → Type 0
-RemovesAt path (Ok value) old new = (is_done : Bool) × (new ≡ Remove path is_done ∷ old)
-RemovesAt path (Err error) old new = new ≡ Remove path false ∷ old

@@ -6,9 +6,9 @@ ghost use Rattle.std.specs.Char.{is_ascii_digit};
 ghost use Rattle.std.specs.List.{list_all};
 ghost use Rattle.std.specs.Path.{path_buf_bytes};
 ghost use Rattle.host_paths.specs.Left.{AreUsers, IsLeft, IsNewName, KeepsSwept, MayHaveGiven, OnlyBeside, RemovesNone, is_number, is_of_users, last_name};
-ghost use Rattle.host_paths.specs.Made.{IsOthers, IsOurs, MakesAt, MakesBeside, RemovesAt, file_of, mode_of, path_of};
+ghost use Rattle.host_paths.specs.Made.{IsOthers, IsOurs, MakesAt, MakesBeside, file_of, mode_of, path_of};
 ghost use Rattle.host_paths.specs.Naming.{IsMadePath, path_beside};
-ghost use Rattle.host_paths.specs.declared.host.HostCall.TheVariants.{Rename};
+ghost use Rattle.host_paths.specs.declared.host.HostCall.TheVariants.{Remove, Rename};
 
 use crate::host::{
     Access, Found, HostCalls, Locking, found_at, found_of, lock, make, open, remove, rename,
@@ -268,12 +268,9 @@ impl<'a> Beside<'a> {
 
     /// Removes it, if it is there.
     pub fn remove(&self, log: &mut HostCalls) -> io::Result<()>
-        ensures { RemovesAt (path_of self.now) result log.old.events log.new.events }
+        ensures { log.new.events ≡ Remove (path_of self.now) (is_ok result) ∷ log.old.events }
     {
-        match remove(self.rt, self.path.as_str(), log) {
-            Err(error) if error.kind() != ErrorKind::NotFound => Err(error),
-            _ => Ok(()),
-        }
+        remove(self.rt, self.path.as_str(), log)
     }
 
     /// The path at which it was made. Nothing there is removed.

@@ -104,7 +104,7 @@ pub enum HostCall {
     Make(u32, LinkedList<u8>, Option<File>),
     /// It was to rename what is at the first path to the second, and whether it did.
     Rename(LinkedList<u8>, LinkedList<u8>, bool),
-    /// It was to remove what is at this path, and whether it did.
+    /// It was to remove what is at this path, and whether there is nothing now.
     Remove(LinkedList<u8>, bool),
     /// It was to write all these bytes to this file, and whether it did.
     Write(File, LinkedList<u8>, bool),
@@ -367,11 +367,19 @@ pub(crate) fn rename(rt: &HostRuntime, from: &str, to: &str, log: &mut HostCalls
     done
 }
 
-/// Removes the file at a path.
+/// What became of a file that was to be removed: where there is none, nothing is left to be done.
+fn if_gone(removed: io::Result<()>) -> io::Result<()> {
+    match removed {
+        Err(error) if error.kind() == ErrorKind::NotFound => Ok(()),
+        _ => removed,
+    }
+}
+
+/// Removes the file at a path, if there is one.
 pub(crate) fn remove(rt: &HostRuntime, path: &str, log: &mut HostCalls) -> io::Result<()>
     ensures { log.new.events ≡ Remove path.now (is_ok result) ∷ log.old.events }
 {
-    let done = fs::remove_file(rt, path);
+    let done = if_gone(fs::remove_file(rt, path));
     *log = Record::of_events_beside(log, &path, &done);
     done
 }

@@ -3,7 +3,8 @@ use Rattle.std.proofs.Common.{◌≡◌, ℕ, zero, suc, ◌-◌, List, [], ◌�
 use Rattle.std.specs.Option.{IsSomeAnd}
 use Rattle.fork_disk.specs.Crash.{Finds}
 use Rattle.macheap.specs.Program.{Parts}
-use Rattle.macheap.specs.Restarting.{StartsWhereLeft}
+use Rattle.script_run.specs.Seen.{Crash, StartsOn}
+use Rattle.macheap.specs.Restarting.{StartsOnDisk}
 use Rattle.macheap.specs.Stores.{ArePaired}
 
 module _ {F S J : Type 0} (parts : Parts F S J) where
@@ -27,5 +28,7 @@ module _ {F S J : Type 0} (parts : Parts F S J) where
   starts_at law history (fork ∷ forks) [] stores from at are found = absurd are
   starts_at law history (fork ∷ forks) (journal ∷ journals) [] from at are found = absurd found
 
-  pub starts_where_left : Law → StartsWhereLeft parts
-  starts_where_left law paths openings stores crash number (forks, journals, asked, are, named) found = starts_at law crash.history forks journals stores 0 (number - 1) are found
+  -- a run that starts on the disk as a crash left it starts on that file so: until something happens to it a start finds
+  -- no other fork
+  pub starts_on : Law → (crash : Crash parts.with_journal.Event) (number : ℕ) (stores : List J) → StartsOnDisk parts crash number stores → StartsOn parts.with_journal crash number stores
+  starts_on law crash number stores (paths, openings, (forks, journals, asked, are, named), found) = starts_at law crash.history forks journals stores 0 (number - 1) are found

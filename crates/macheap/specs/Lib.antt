@@ -8,4 +8,3 @@ pub mod Asking
 pub mod Program
 pub mod Saying
 pub mod Restarting
-pub mod OnDisk

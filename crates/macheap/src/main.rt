@@ -47,7 +47,9 @@ fn run_on_host<W: World, V: PairWorld>(rt: &HostRuntime) -> ExitCode {
     let mut input = Counted::new(rt.stdin());
     let mut output = Counted::new(rt.stdout());
     let mut messages = Counted::new(rt.stderr());
-    let mut opener: HostDisks<'_, PlainStore<Disk<W>>, Journal<FilePair<V>>> = HostDisks::new(rt);
+    let mut opener: HostDisks<'_, PlainStore<Disk<W>>, Journal<FilePair<V>>> = HostDisks::new(
+        rt, 0,
+    );
     ExitCode::from(program(
         alloc,
         words,

@@ -7,10 +7,10 @@ ghost use Rattle.script_run.specs.Counting.{RoseByOne, Took};
 ghost use Rattle.script_run.specs.Exact.{RunsAgree};
 ghost use Rattle.script_run.specs.Headline.{RunShows};
 ghost use Rattle.script_run.specs.Recovery.{RunRecovers};
-ghost use Rattle.script_run.specs.Seen.{KeepsSeen};
+ghost use Rattle.script_run.specs.Seen.{KeepsSeen, StartsOn};
 ghost use Rattle.script_run.specs.Turns.{Notes};
 ghost use Rattle.macheap.specs.Program.{Answers, AnyNotes, Did, HelpEnds, NoStoresEnd, ProgramEnds, Refuses, RunEnds, RunsOver, SaysWhy, Tells, Wrote, cannot_open_text, lacks_memory, opening_of};
-ghost use Rattle.macheap.specs.Restarting.{StartsWhereLeft};
+ghost use Rattle.macheap.specs.Restarting.{StartsOnDisk};
 ghost use Rattle.macheap.specs.Stores.{Opening};
 ghost use Rattle.macheap.specs.declared.stores.AnyStore.{AnyStore};
 
@@ -86,10 +86,10 @@ pub fn program<
     ensures headline { RunShows S.ForkStore × RunShows J.ForkStore }
     ensures recovers { RunRecovers S.ForkStore × RunRecovers J.ForkStore }
     // Over any runs, each of which a crash cut off at any time, a start finds what the last call settled whose reply had
-    // been written, or what a later one saves.
-    ensures kept { KeepsSeen S.ForkStore × KeepsSeen J.ForkStore }
-    // Of a run that starts after a crash this rests on the disk alone.
-    ensures starts { StartsWhereLeft (record { files = O.asking; store = S.ForkStore; with_journal = J.ForkStore; plain = O.plain; pairs = O.pairs }) }
+    // been written, or what a later one saves. Of a run over files with journals that starts after a crash this rests on
+    // the disk alone.
+    ensures kept { KeepsSeen S.ForkStore (StartsOn S.ForkStore)
+        × KeepsSeen J.ForkStore (StartsOnDisk (record { files = O.asking; store = S.ForkStore; with_journal = J.ForkStore; plain = O.plain; pairs = O.pairs })) }
     ensures exact { RunsAgree S.ForkStore × RunsAgree J.ForkStore }
     // Where something failed, the status says so.
     ensures no_read_failed { result ≢ 1 → input.new.failures ≡ input.old.failures }

@@ -91,18 +91,22 @@ fn note_closed<T: Drop>(closed: &mut Record<T>, store: T)
 #[derive(Drop)]
 pub struct HostDisks<'a, S, J> {
     runtime: &'a HostRuntime,
+    /// Which run it is over files with journals, of those of a world. Only clauses read it.
+    run: u64,
     opened: OpenedFiles,
     closed: Record<AnyStore<S, J>>,
 }
 
 impl<'a, S, J> HostDisks<'a, S, J> {
-    /// Opens the files of this host. None was asked for so far, and no store closed.
-    pub fn new(runtime: &'a HostRuntime) -> HostDisks<'a, S, J>
+    /// Opens the files of this host in the run of this number. None was asked for so far, and no store closed.
+    pub fn new(runtime: &'a HostRuntime, run: u64) -> HostDisks<'a, S, J>
+        ensures run { result.run ≡ run }
         ensures none_opened { result.opened.events ≡ [] }
         ensures none_closed { result.closed.events ≡ [] }
     {
         HostDisks {
             runtime,
+            run,
             opened: Record::new(),
             closed: Record::new(),
         }
@@ -112,9 +116,9 @@ impl<'a, S, J> HostDisks<'a, S, J> {
 /// `W` says what the files of forks alone hold, and `V` what those with journals hold.
 impl<W: World, V: PairWorld> Opens<NewFile, PlainStore<Disk<W>>, Journal<FilePair<V>>>
     for HostDisks<'_, PlainStore<Disk<W>>, Journal<FilePair<V>>> {
+    ghost use Rattle.fork_journal.specs.Files.{none_other};
     ghost use Rattle.macheap.specs.Disks.{IsFile};
     ghost use Rattle.macheap.specs.Claiming.{as_opened};
-    ghost use Rattle.macheap.specs.OnDisk.{none_other};
 
     ghost openings = { λ opener. opener.opened.events };
 
@@ -127,7 +131,7 @@ impl<W: World, V: PairWorld> Opens<NewFile, PlainStore<Disk<W>>, Journal<FilePai
     ghost pairs = { λ number fork journal store. (store.pair.fork ≡ record fork.file { which = 0 })
         × (store.pair.journal ≡ record journal.file { which = 1 }) × (store.pair.number ≡ number) × (store.pair.log.events ≡ []) };
 
-    ghost starts = { λ number fork journal store made. none_other (V.held store.pair.number) store.pair.log.events made.3 };
+    ghost starts = { λ number fork journal store made. none_other (V.held store.pair.run store.pair.number) store.pair.log.events made.3 };
 
     fn open(&mut self, path: &str, naming: Naming, known: &[Found]) -> Result<NewFile, NotOpened> {
         let file = open_claimed(self.runtime, path, naming, known);
@@ -154,7 +158,7 @@ impl<W: World, V: PairWorld> Opens<NewFile, PlainStore<Disk<W>>, Journal<FilePai
     fn journalled(&self, fork: NewFile, journal: NewFile, number: u64) -> Journal<FilePair<V>> {
         Journal::new(
             self.runtime.alloc(),
-            FilePair::new(fork.file, journal.file, number),
+            FilePair::new(fork.file, journal.file, self.run, number),
         )
     }
 

@@ -47,7 +47,7 @@ module _ {S : Type 0} (store : Ghosts S) (journal : store.has_journal) where
       by (Some s) starts = λ found may. subst P (sym (starts.1 found may)) (each (store.fork s) starts.0)
 
   -- so what may be found after one run is found after others, or one of them saved it
-  runs-keep : (later : List (CutOff store)) (run : CutOff store) (P : List ℕ → Type 0) → Finds store.may_find P run.crash.history → AreRestarted store (run ∷ later)
+  runs-keep : (later : List (CutOff store)) (run : CutOff store) (P : List ℕ → Type 0) → Finds store.may_find P run.crash.history → AreRestarted store (StartsOn store) (run ∷ later)
       → (found : List ℕ) → store.may_find (last_crash store run.crash later).history found → P found ⊎ SavedInRuns store later found
   runs-keep [] run P each are found may = inl (each found may)
   runs-keep (next ∷ later) run P each are found may =
@@ -68,6 +68,16 @@ module _ {S : Type 0} (store : Ghosts S) (journal : store.has_journal) where
       found-settled store journal run.number run.low run.crash run.written found may [] [] old seen.before seen.step seen.text seen.after seen.fork are honest seen.settles seen.some comes
 
 -- this is promised of crashes in any runs
-pub keeps-seen : {S : Type 0} (store : Ghosts S) → KeepsSeen store
+pub keeps-seen : {S : Type 0} (store : Ghosts S) → KeepsSeen store (StartsOn store)
 keeps-seen store run later seen found journal are may =
     ⊎_elim (⊎_elim inl (λ saved. inr (inl saved))) (λ saved. inr (inr saved)) (runs-keep store journal later run _ (seen-kept store journal run seen) are found may)
+
+module _ {S : Type 0} (store : Ghosts S) (Starts : Crash store.Event → ℕ → List S → Type 0) (starts : (crash : Crash store.Event) (number : ℕ) (stores : List S) → Starts crash number stores → StartsOn store crash number stores) where
+  restarted : (runs : List (CutOff store)) → AreRestarted store Starts runs → AreRestarted store (StartsOn store) runs
+  restarted [] are = tt
+  restarted (run ∷ []) are = tt
+  restarted (run ∷ next ∷ later) are = (starts run.crash next.number next.stores are.0, restarted (next ∷ later) are.1)
+
+  -- and of crashes in runs that start in a way from which it follows that they start on the file as the crash left it
+  pub keeps-seen-where : KeepsSeen store Starts
+  keeps-seen-where run later seen found journal are may = keeps-seen store run later seen found journal (restarted (run ∷ later) are) may

@@ -66,11 +66,11 @@ abbrev pub StartsOn : {S : Type 0} (store : Ghosts S) → Crash store.Event → 
 StartsOn {S = S} store crash number stores = IsSomeAnd (slice_get stores (number - 1))
     (λ (s : S). store.may_find crash.history (store.fork s) × Finds store.may_find (λ found. found ≡ store.fork s) (store.history s))
 
--- each of these runs starts on the file as the crash in the one before it left it
-abbrev pub AreRestarted : {S : Type 0} (store : Ghosts S) → List (CutOff store) → Type 0
-AreRestarted store (run ∷ next ∷ later) = StartsOn store run.crash next.number next.stores × AreRestarted store (next ∷ later)
-AreRestarted store (run ∷ []) = ⊤
-AreRestarted store [] = ⊤
+-- each of these runs starts so on the file as the crash in the one before it left it
+abbrev pub AreRestarted : {S : Type 0} (store : Ghosts S) → (Crash store.Event → ℕ → List S → Type 0) → List (CutOff store) → Type 0
+AreRestarted store Starts (run ∷ next ∷ later) = Starts run.crash next.number next.stores × AreRestarted store Starts (next ∷ later)
+AreRestarted store Starts (run ∷ []) = ⊤
+AreRestarted store Starts [] = ⊤
 
 -- the crash in the last of these runs, or this one where there are none
 abbrev pub last_crash : {S : Type 0} (store : Ghosts S) → Crash store.Event → List (CutOff store) → Crash store.Event
@@ -109,11 +109,11 @@ pub record WasSeen {S : Type 0} (store : Ghosts S) (run : CutOff store) : Type 0
   pub whole : IsFront (printed_after [] before ++ text) run.crash.written
   pub some : IsProperFront (printed_after [] before) run.crash.written
 
--- Where stores have journals, and runs follow each other, each of which a crash cut off at any time: once a call settled
--- the file in the first of them, and its reply had been written, each fork that the next start may find is the one that
--- it settled, or one that a call saves that came after it and may have begun.
-abbrev pub KeepsSeen : {S : Type 0} → Ghosts S → Type 0
-KeepsSeen {S = S} store = (run : CutOff store) (later : List (CutOff store)) (seen : WasSeen store run) (found : List ℕ)
-    → store.has_journal → AreRestarted store (run ∷ later) → store.may_find (last_crash store run.crash later).history found
+-- Where stores have journals, and runs follow each other that start so, each of which a crash cut off at any time: once a
+-- call settled the file in the first of them, and its reply had been written, each fork that the next start may find is
+-- the one that it settled, or one that a call saves that came after it and may have begun.
+abbrev pub KeepsSeen : {S : Type 0} (store : Ghosts S) → (Crash store.Event → ℕ → List S → Type 0) → Type 0
+KeepsSeen {S = S} store Starts = (run : CutOff store) (later : List (CutOff store)) (seen : WasSeen store run) (found : List ℕ)
+    → store.has_journal → AreRestarted store Starts (run ∷ later) → store.may_find (last_crash store run.crash later).history found
     → (found ≡ seen.fork) ⊎ (SavedBy store run.crash.written seen.step.left (printed_after [] seen.before ++ seen.text) seen.after run.number found
     ⊎ SavedInRuns store later found)

@@ -10,7 +10,7 @@ ghost use Rattle.script_run.specs.Headline.{RunShows};
 ghost use Rattle.script_run.specs.Line.{start_of};
 ghost use Rattle.script_run.specs.Recovery.{RunRecovers};
 ghost use Rattle.script_run.specs.Run.{Ends, Tells};
-ghost use Rattle.script_run.specs.Seen.{KeepsSeen};
+ghost use Rattle.script_run.specs.Seen.{KeepsSeen, StartsOn};
 ghost use Rattle.script_run.specs.Starting.{TellsNoScript};
 ghost use Rattle.script_run.specs.Turns.{Notes, stores_of};
 
@@ -59,7 +59,7 @@ pub fn run<S: ForkStore, R: Read, W: Write>(
 
     // So over any runs, each of which a crash cut off at any time: once the reply of a call that settled a file had been
     // written in one of them, the next start finds the fork that it settled, or what a later call saves that had begun.
-    ensures kept { KeepsSeen S.ForkStore }
+    ensures kept { KeepsSeen S.ForkStore (StartsOn S.ForkStore) }
 
     // Two runs of the same lines, with the same sizes of the zone and the same forks, print the same and leave the same
     // zone, loans, files and forks, where no device failed.

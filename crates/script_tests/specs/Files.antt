@@ -40,8 +40,8 @@ file_store world = record {
 -- where both were synced once they were open, and the answers of these calls are those of such files.
 abbrev pub file_pair : {W : Type 0} (world : pair_world.Ghosts W) → pair_disk.Ghosts (FilePair W world)
 file_pair world = record {
-  contents = λ files. world.held files.number files.log.events;
-  history = λ files. pair.history_of (world.held files.number) files.log.events;
+  contents = λ files. world.held files.run files.number files.log.events;
+  history = λ files. pair.history_of (world.held files.run files.number) files.log.events;
   is_honest = λ files. IsHonestIn world files;
   failures = λ files. file.failed_calls files.log.events;
 }

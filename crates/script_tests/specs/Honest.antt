@@ -1,4 +1,4 @@
--- The premise of files can be met: in some world those that do what they answer, and answer what they hold, are honest.
+-- The premises of files can be met: in some world those that do what they answer, and answer what they hold, are honest.
 use Rattle.std.specs.Prelude.{◌≡◌, ℕ, zero, suc, Bool, true, List, [], ◌∷◌, length, ◌≤◌, ⊤}
 use Rattle.fork_disk.proofs.Honest.{after, leaves, stepped, Tells}
 use Rattle.fork_disk.specs.Record.{Event, call_of, number_of, is_done}
@@ -6,13 +6,16 @@ use Rattle.fork_disk.specs.declared.file_disk.FileDisk.{FileDisk}
 use Rattle.fork_disk.specs.declared.store.PlainStore.{PlainStore}
 use Rattle.fork_disk.specs.declared.world.Unknown.{Unknown}
 use Rattle.fork_disk.specs.declared.world.World as world_of
-use Rattle.fork_journal.specs.Crash.{Contents, side_of}
+use Rattle.fork_journal.specs.Crash as crashes
+use Rattle.fork_journal.specs.Crash.{Contents, MayLeave, side_of}
 use Rattle.fork_journal.specs.Files.{side_in}
 use Rattle.fork_journal.specs.Record.{with_side}
 use Rattle.fork_journal.specs.declared.file_pair.FilePair.{FilePair}
+use Rattle.fork_journal.specs.declared.journal.Journal.{Journal}
 use Rattle.fork_journal.specs.declared.pair_world.PairWorld as pair_world
 use Rattle.fork_journal.specs.declared.pair_world.UnknownPair.{UnknownPair}
-use Rattle.script_tests.specs.Files.{file_pair, file_store}
+use Rattle.script_run.specs.Seen.{Crash, StartsOn}
+use Rattle.script_tests.specs.Files.{file_pair, file_store, journalled_store}
 
 -- The answers of these calls, the newest first, say what a file holds that had these bytes before them and does what
 -- it answers.
@@ -47,10 +50,15 @@ AreBothTold first (e ∷ past) = AreBothTold first past
     × TellsOf (call_of e) (number_of e) (is_done e) e.1 (side_of (side_in e) (both_after first past))
 
 -- the world of pairs of files that had these bytes at first, and do what they answer
-abbrev pub faithful_pairs : (ℕ → Contents) → pair_world.Ghosts UnknownPair
-faithful_pairs first = record { held = λ number. both_after (first number) }
+abbrev pub faithful_pairs : (ℕ → ℕ → Contents) → pair_world.Ghosts UnknownPair
+faithful_pairs first = record { held = λ run number. both_after (first run number) }
 
 -- in that world a fork and its journal that were synced are honest after any calls whose answers say what they hold
 abbrev pub PairsCanBeHonest : Type 0
-PairsCanBeHonest = (first : ℕ → Contents) (files : FilePair UnknownPair (faithful_pairs first))
-    → files.fork.was_synced ≡ true → files.journal.was_synced ≡ true → AreBothTold (first files.number) files.log.events → (file_pair (faithful_pairs first)).is_honest files
+PairsCanBeHonest = (first : ℕ → ℕ → Contents) (files : FilePair UnknownPair (faithful_pairs first))
+    → files.fork.was_synced ≡ true → files.journal.was_synced ≡ true → AreBothTold (first files.run files.number) files.log.events → (file_pair (faithful_pairs first)).is_honest files
+
+-- whatever a crash may leave of two files, a run over them starts on it, if they have that when they are opened in it
+abbrev pub PairsCanBeLeft : Type 0
+PairsCanBeLeft = (first : ℕ → ℕ → Contents) (crash : Crash crashes.Event) (store : Journal (FilePair UnknownPair (faithful_pairs first)) (file_pair (faithful_pairs first)))
+    → store.pair.log.events ≡ [] → MayLeave crash.history (first store.pair.run store.pair.number) → StartsOn (journalled_store (faithful_pairs first)) crash 1 (store ∷ [])

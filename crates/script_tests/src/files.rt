@@ -8,10 +8,10 @@ ghost use Rattle.script_run.specs.Headline.{RunShows};
 ghost use Rattle.script_run.specs.Line.{start_of};
 ghost use Rattle.script_run.specs.Recovery.{RunRecovers};
 ghost use Rattle.script_run.specs.Run.{Ends};
-ghost use Rattle.script_run.specs.Seen.{KeepsSeen};
+ghost use Rattle.script_run.specs.Seen.{KeepsSeen, StartsOn};
 ghost use Rattle.script_run.specs.Turns.{Notes};
 ghost use Rattle.script_tests.specs.Files.{file_store, journalled_store};
-ghost use Rattle.script_tests.specs.Honest.{FilesCanBeHonest, PairsCanBeHonest};
+ghost use Rattle.script_tests.specs.Honest.{FilesCanBeHonest, PairsCanBeHonest, PairsCanBeLeft};
 
 use fork_disk::store::PlainStore;
 use fork_disk::{FileDisk, World};
@@ -37,7 +37,7 @@ pub fn run_over_files<W: World, R: Read, T: Write>(
         (λ noted. Ends (file_store W.World) (start_of spec stores.items) (unwrap_or (R.remaining reader.old.inner) given) result.0 written noted result.1.items) }
     ensures headline { RunShows (file_store W.World) }
     ensures recovers { RunRecovers (file_store W.World) }
-    ensures kept { KeepsSeen (file_store W.World) }
+    ensures kept { KeepsSeen (file_store W.World) (StartsOn (file_store W.World)) }
     ensures exact { RunsAgree (file_store W.World) }
 {
     run(alloc, reader, writer, moments, spec, stores)
@@ -58,15 +58,16 @@ pub fn run_over_journalled_files<W: PairWorld, R: Read, T: Write>(
         (λ noted. Ends (journalled_store W.PairWorld) (start_of spec stores.items) (unwrap_or (R.remaining reader.old.inner) given) result.0 written noted result.1.items) }
     ensures headline { RunShows (journalled_store W.PairWorld) }
     ensures recovers { RunRecovers (journalled_store W.PairWorld) }
-    ensures kept { KeepsSeen (journalled_store W.PairWorld) }
+    ensures kept { KeepsSeen (journalled_store W.PairWorld) (StartsOn (journalled_store W.PairWorld)) }
     ensures exact { RunsAgree (journalled_store W.PairWorld) }
 {
     run(alloc, reader, writer, moments, spec, stores)
 }
 
-/// The premise of both can be met: files that do what they answer, and answer what they hold, are honest. It computes
-/// nothing.
+/// The premises of both can be met: files that do what they answer, and answer what they hold, are honest, and a run
+/// starts on whatever a crash may leave of them. It computes nothing.
 pub fn files_can_be_honest()
     ensures files { FilesCanBeHonest }
     ensures pairs { PairsCanBeHonest }
+    ensures left { PairsCanBeLeft }
 {}

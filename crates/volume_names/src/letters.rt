@@ -46,7 +46,7 @@ fn is_same_byte(rule: Rule, first: u8, second: u8) -> bool
 }
 
 /// Whether names with these bytes are the same by a rule.
-fn is_same_text(rule: Rule, first: &[u8], second: &[u8]) -> bool
+pub fn is_same_text(rule: Rule, first: &[u8], second: &[u8]) -> bool
     ensures { result ≡ is_same_text rule first.now second.now }
 {
     if first.len() != second.len() {

@@ -1,5 +1,5 @@
 -- A step of a call: it may be made, leaves a sound heap, and says where contents are.
-use Rattle.std.proofs.Common.{◌≡◌, ℕ, true, length, List, Option, Some, None, Ok, ap, sym, subst, ◌∙◌}
+use Rattle.std.proofs.Common.{arith, ◌≡◌, ℕ, true, length, List, Option, Ok, ap, sym, subst, ◌∙◌}
 use Rattle.mac_base.specs.declared.releasing.ReleasingCall.{ReleasingCall}
 use Rattle.mac_base.specs.declared.releasing.ReleasingCall.TheVariants.{DisposesHandle, DisposesPtr, Empties}
 use Rattle.mac_base.specs.declared.block.Flags.{Flags}
@@ -61,11 +61,7 @@ released-sound s heap (Empties h) sound may = sound-emptied s heap h sound may
 
 -- Deref gives the address of the contents
 address-unless : (s : Shape) (old : Heap) (h : ℕ) (r : Results) (asks : List Ask) (new : Heap) (o : Option OsErr) → StepUnless RequestRun o s old (OnBlock (Deref h)) asks (Ok r) new → r ≡ Address (contents_of s h old.map)
-address-unless s old h r asks new (Some code) step = absurd (cc step.1)
-address-unless s old h r asks new None step =
-    let q = step.1 in
-    let told : r ≡ Address (contents_of s h new.map) = cc q.1 in
-    told ∙ ap (λ m. Address (contents_of s h m)) q.0.map
+address-unless s old h r asks new v6 step = grind arith
 
 pub step-address : (s : Shape) (old : Heap) (call : MemoryCall) (asks : List Ask) (outcome : Outcome) (new : Heap) → MemoryStep s old call asks outcome new → TellsAddress s old call outcome
 step-address s old (OnBlock (Deref h)) asks (Ok r) new step = address-unless s old h r asks new (refusal s old (OnBlock (Deref h))) step

@@ -1,12 +1,12 @@
 -- A handle or a pointer keeps its number until somebody disposes of it.
-use Rattle.std.proofs.Common.{◌≡◌, ℕ, true, false, List, [], ◌∷◌, Some, None, Ok, Contains, ap, refl, subst, sym, ◌∙◌, inl, inr}
+use Rattle.std.proofs.Common.{arith, ◌≡◌, ℕ, true, false, List, [], Some, None, Ok, Contains, ap, refl, subst, sym, inl, inr}
 use Rattle.std.specs.Prelude.{◌⊎◌}
 use Rattle.std.specs.Option.{option_to_list}
 use Rattle.std.proofs.lemmas.Bool.{true≢false}
 use Rattle.std.proofs.lemmas.List.Elements.{Contains-append_left, Contains-append_right}
 use Rattle.mac_base.specs.declared.releasing.ReleasingCall.{ReleasingCall}
 use Rattle.mac_base.specs.declared.releasing.ReleasingCall.TheVariants.{DisposesHandle, DisposesPtr, Empties}
-use Rattle.mac_base.specs.HandleTable.{EmptyHandle, is_handle, live_handle}
+use Rattle.mac_base.specs.HandleTable.{is_handle}
 use Rattle.mac_base.specs.HeadKind.{Shape}
 use Rattle.mac_base.specs.Heap.{Heap}
 use Rattle.mac_base.specs.Releasing.{heap_released, operand_of}
@@ -16,7 +16,7 @@ use Rattle.mac_base.specs.GrowZone.{Ask, memory_call}
 use Rattle.mac_base.specs.MemoryStep.{MemoryStep}
 use Rattle.mac_base.specs.Outcomes.{Outcome}
 use Rattle.mac_base.specs.Released.{disposed_by, disposed_in, disposed_itself, disposed_of}
-use Rattle.mac_base.specs.Tests.{IsPointer, NotLent, refusal}
+use Rattle.mac_base.specs.Tests.{refusal}
 use Rattle.zone_laws.proofs.SlotPlaces.{Contains-here}
 use Rattle.zone_laws.proofs.Tables.{handle_no_pointer, live_at-with_live_same}
 use Rattle.zone_laws.proofs.Refusals.{passed-IsPointer, test_1}
@@ -24,15 +24,12 @@ use Rattle.zone_laws.proofs.Losing.{MayEnd, Trait, step-keeps}
 
 pub released-handle : (s : Shape) (call : ReleasingCall) (heap : Heap) → refusal s heap (memory_call call) ≡ None → is_handle heap.table (operand_of call) ≡ true
     → (is_handle (heap_released call heap).table (operand_of call) ≡ true) ⊎ (disposed_by (call, None) ≡ Some (operand_of call))
-released-handle s (DisposesHandle h) heap passes here = inr refl
-released-handle s (DisposesPtr p) heap passes here =
-    absurd (true≢false (sym (passed-IsPointer s heap p (test_1 s heap (IsPointer p) (NotLent p ∷ []) passes)) ∙ handle_no_pointer heap.table p here))
-released-handle s (Empties h) heap passes here = inl (ap live_handle (live_at-with_live_same h EmptyHandle heap.table))
+released-handle s (DisposesHandle h) heap passes here = grind (arith, handle_no_pointer, live_at-with_live_same, passed-IsPointer, test_1, true≢false)
+released-handle s (DisposesPtr p) heap passes here = grind (arith, handle_no_pointer, live_at-with_live_same, passed-IsPointer, test_1, true≢false)
+released-handle s (Empties h) heap passes here = grind (arith, handle_no_pointer, live_at-with_live_same, passed-IsPointer, test_1, true≢false)
 
 pub itself-disposed : (call : ReleasingCall) (results : Results) → disposed_itself (memory_call call) (Ok results) ≡ disposed_by (call, None)
-itself-disposed (DisposesHandle h) results = refl
-itself-disposed (DisposesPtr p) results = refl
-itself-disposed (Empties h) results = refl
+itself-disposed v0 results = grind arith
 
 -- to be a handle
 abbrev pub a_handle : Trait

@@ -1,13 +1,13 @@
 -- What the arrangements of a list of blocks keep: the used blocks, the bytes, the free bytes.
 use Rattle.std.proofs.Common.{◌≡◌, ℕ, ◌+◌, Bool, true, false, not, cond, [], ◌∷◌, ◌++◌, refl, ap, sym, ◌∙◌, inl, inr, append-nil, arith}
-use Rattle.std.specs.Prelude.{◌&&◌, ◌||◌, ◌⊎◌, ◌==◌, IsTrue}
+use Rattle.std.specs.Prelude.{◌&&◌, ◌⊎◌, ◌==◌, IsTrue}
 use Rattle.std.specs.List.{list_all}
-use Rattle.std.proofs.lemmas.Bool.{and_from, and_parts, not-true, eqb-true}
+use Rattle.std.proofs.lemmas.Bool.{and_from, and_parts, not-true}
 use Rattle.std.proofs.lemmas.List.Folds.{list_all-append}
 use Rattle.std.proofs.lemmas.List.Elements.{filter-append}
 use Rattle.mac_base.specs.declared.block.Entry.{Entry}
 use Rattle.mac_base.specs.declared.block.Kind.{Kind}
-use Rattle.mac_base.specs.declared.block.Kind.TheVariants.{Free, Master, Ptr, Rel}
+use Rattle.mac_base.specs.declared.block.Kind.TheVariants.{Free}
 use Rattle.mac_base.specs.ZoneMap.{ZoneMap, block, free_block, is_free, is_kind, is_named, total_size, free_bytes, sizes}
 use Rattle.mac_base.specs.Suits.{free_apart, starts_free}
 use Rattle.mac_base.specs.Gap.{has_named}
@@ -17,24 +17,15 @@ use Rattle.zone_laws.proofs.Maps.{total_size-append}
 
 -- a free block's kind
 pub free_is : (k : Kind) → is_free k ≡ true → k ≡ Free
-free_is Free h = refl
-free_is Master h = absurd (cc h)
-free_is (Ptr p) h = absurd (cc h)
-free_is (Rel g) h = absurd (cc h)
+free_is v0 h = grind arith
 
 -- a block that is named is not free
 pub named-used : (x : ℕ) (k : Kind) → is_named x k ≡ true → is_free k ≡ false
-named-used x Free h = absurd (cc h)
-named-used x Master h = refl
-named-used x (Ptr p) h = refl
-named-used x (Rel g) h = refl
+named-used x v1 h = grind arith
 
 -- a free block is not of the kind of a block that is in use
 pub is_kind-free : (k : Kind) → is_free k ≡ false → is_kind k Free ≡ false
-is_kind-free Free h = absurd (cc h)
-is_kind-free Master h = refl
-is_kind-free (Ptr p) h = refl
-is_kind-free (Rel g) h = refl
+is_kind-free v0 h = grind arith
 
 -- whether all these blocks are in use
 abbrev pub all_used : ZoneMap → Bool
@@ -43,10 +34,7 @@ all_used blocks = list_all (λ (e : Entry). not (is_free e.kind)) blocks
 -- the blocks in use are in use
 pub used_blocks-all_used : (b : ZoneMap) → all_used (used_blocks b) ≡ true
 used_blocks-all_used [] = refl
-used_blocks-all_used (e ∷ es) = elim (is_free e.kind) as (λ b. is_free e.kind ≡ b → all_used (cond (not b) (e ∷ used_blocks es) (used_blocks es)) ≡ true) [
-  | true ↦ λ free. used_blocks-all_used es
-  | false ↦ λ used. and_from _ _ (ap not used) (used_blocks-all_used es)
-] refl
+used_blocks-all_used (e ∷ es) = grind (arith, used_blocks-all_used es, and_from)
 
 -- blocks that are all in use
 pub used_blocks-same : (b : ZoneMap) → all_used b ≡ true → used_blocks b ≡ b
@@ -65,27 +53,17 @@ list_all-used p (e ∷ es) h = let parts = and_parts _ _ h in elim (is_free e.ki
 -- a block that is named is in use
 pub has_named-used : (x : ℕ) (b : ZoneMap) → has_named x (used_blocks b) ≡ has_named x b
 has_named-used x [] = refl
-has_named-used x (e ∷ es) = elim (is_free e.kind) as (λ b. is_free e.kind ≡ b → has_named x (cond (not b) (e ∷ used_blocks es) (used_blocks es)) ≡ has_named x (e ∷ es)) [
-  | true ↦ λ free. has_named-used x es ∙ ap (λ k. is_named x k || has_named x es) (sym (free_is e.kind free))
-  | false ↦ λ used. ap (λ b. is_named x e.kind || b) (has_named-used x es)
-] refl
+has_named-used x (e ∷ es) = grind (arith, has_named-used x es, free_is)
 
 -- the sizes of the blocks that pass a test which no free block passes
 pub sizes-used : (test : Kind → Bool) (b : ZoneMap) → test Free ≡ false → sizes test (used_blocks b) ≡ sizes test b
 sizes-used test [] h = refl
-sizes-used test (e ∷ es) h = elim (is_free e.kind) as (λ b. is_free e.kind ≡ b → sizes test (cond (not b) (e ∷ used_blocks es) (used_blocks es)) ≡ sizes test (e ∷ es)) [
-  | true ↦ λ free. sizes-used test es h ∙ sym (ap (λ b. cond b (e.size ∷ []) [] ++ sizes test es) (ap test (free_is e.kind free) ∙ h))
-  | false ↦ λ used. ap (λ ns. cond (test e.kind) (e.size ∷ []) [] ++ ns) (sizes-used test es h)
-] refl
+sizes-used test (e ∷ es) h = grind (arith, sizes-used test es h, free_is)
 
 -- the bytes are those in use and those that are free
 pub total_size-used : (b : ZoneMap) → total_size b ≡ total_size (used_blocks b) + free_bytes b
 total_size-used [] = refl
-total_size-used (e ∷ es) = let rest = total_size-used es in
-    elim (is_free e.kind) as (λ b. e.size + total_size es ≡ total_size (cond (not b) (e ∷ used_blocks es) (used_blocks es)) + (cond b e.size 0 + free_bytes es)) [
-      | true ↦ omega arith
-      | false ↦ omega arith
-    ]
+total_size-used (e ∷ es) = grind (arith, total_size-used es)
 
 -- blocks in use have no free bytes
 pub free_bytes-all_used : (b : ZoneMap) → all_used b ≡ true → free_bytes b ≡ 0
@@ -94,24 +72,15 @@ free_bytes-all_used (e ∷ es) h = let parts = and_parts _ _ h in ap (λ b. cond
 
 -- one free block of n bytes, or none where n is 0, has n bytes
 pub total_size-free_block : (n : ℕ) → total_size (free_block n) ≡ n
-total_size-free_block n = elim (n == 0) as (λ b. (n == 0) ≡ b → total_size (cond b [] (block Free n ∷ [])) ≡ n) [
-  | true ↦ λ none. let e = eqb-true n 0 none in omega arith
-  | false ↦ λ some. omega arith
-] refl
+total_size-free_block n = grind arith
 
 -- they are free
 pub free_bytes-free_block : (n : ℕ) → free_bytes (free_block n) ≡ n
-free_bytes-free_block n = elim (n == 0) as (λ b. (n == 0) ≡ b → free_bytes (cond b [] (block Free n ∷ [])) ≡ n) [
-  | true ↦ λ none. let e = eqb-true n 0 none in omega arith
-  | false ↦ λ some. omega arith
-] refl
+free_bytes-free_block n = grind arith
 
 -- it passes no test that a free block fails
 pub sizes-free_block : (test : Kind → Bool) (n : ℕ) → test Free ≡ false → sizes test (free_block n) ≡ []
-sizes-free_block test n h = elim (n == 0) as (λ b. sizes test (cond b [] (block Free n ∷ [])) ≡ []) [
-  | true ↦ refl
-  | false ↦ ap (λ b. cond b (n ∷ []) [] ++ []) h
-]
+sizes-free_block test n h = grind arith
 
 -- it is not in use
 pub used_blocks-free_block : (n : ℕ) → used_blocks (free_block n) ≡ []
@@ -138,10 +107,7 @@ starts_free-all_used (e ∷ es) h = not-true _ (and_parts _ _ h).0
 
 -- a free block before others that begin with none
 pub free_apart-free_block : (n : ℕ) (c : ZoneMap) → starts_free c ≡ false → free_apart (free_block n ++ c) ≡ free_apart c
-free_apart-free_block n c h = elim (n == 0) as (λ b. free_apart (cond b [] (block Free n ∷ []) ++ c) ≡ free_apart c) [
-  | true ↦ refl
-  | false ↦ ap (λ b. not b && free_apart c) h
-]
+free_apart-free_block n c h = grind arith
 
 free_apart-all_used : (b : ZoneMap) → all_used b ≡ true → free_apart b ≡ true
 free_apart-all_used b h = ap free_apart (sym (append-nil b)) ∙ free_apart-after_used b [] h

@@ -1,12 +1,11 @@
 -- The arrangements by a block that is named: open at it, and it high.
-use Rattle.std.proofs.Common.{◌≡◌, ℕ, ◌+◌, Bool, true, false, not, cond, List, [], ◌∷◌, ◌++◌, refl, ap, sym, ◌∙◌, append_assoc, append-nil, arith}
-use Rattle.std.specs.Prelude.{◌||◌, filter, if◌then◌else◌}
+use Rattle.std.proofs.Common.{◌≡◌, ℕ, ◌+◌, Bool, true, false, not, cond, [], ◌∷◌, ◌++◌, refl, ap, ◌∙◌, append_assoc, append-nil, arith}
+use Rattle.std.specs.Prelude.{◌||◌, filter}
 use Rattle.std.specs.List.{list_all}
-use Rattle.std.proofs.lemmas.Bool.{and_from, and_parts, eqb-true, false_from_ne_true, true≢false, false≢true}
+use Rattle.std.proofs.lemmas.Bool.{and_from, and_parts}
 use Rattle.std.proofs.lemmas.List.Folds.{list_all-append}
 use Rattle.mac_base.specs.declared.block.Entry.{Entry}
 use Rattle.mac_base.specs.declared.block.Kind.{Kind}
-use Rattle.mac_base.specs.declared.block.Kind.TheVariants.{Free, Master, Ptr, Rel}
 use Rattle.mac_base.specs.ZoneMap.{ZoneMap, free_block, is_free, is_kind, is_named, total_size, free_size, free_bytes, sizes}
 use Rattle.mac_base.specs.Suits.{free_apart}
 use Rattle.mac_base.specs.Gap.{has_named}
@@ -32,11 +31,7 @@ free_bytes-put_after x f (e ∷ es) h = elim (is_named x e.kind) as (λ b. (b ||
 
 sizes-put_after : (test : Kind → Bool) (x : ℕ) (f b : ZoneMap) → sizes test f ≡ [] → sizes test (put_after x f b) ≡ sizes test b
 sizes-put_after test x f [] h = refl
-sizes-put_after test x f (e ∷ es) h = let first : List ℕ = if test e.kind then e.size ∷ [] else [] in
-    elim (is_named x e.kind) as (λ b. sizes test (cond b (e ∷ (f ++ es)) (e ∷ put_after x f es)) ≡ first ++ sizes test es) [
-      | true ↦ ap (λ ns. first ++ ns) (sizes-append test f es ∙ ap (λ ns. ns ++ sizes test es) h)
-      | false ↦ ap (λ ns. first ++ ns) (sizes-put_after test x f es h)
-    ]
+sizes-put_after test x f (e ∷ es) h = grind (arith, sizes-put_after test x f es h, sizes-append)
 
 list_all-put_after : (p : Entry → Bool) (x : ℕ) (f b : ZoneMap) → list_all p f ≡ true → list_all p b ≡ true → list_all p (put_after x f b) ≡ true
 list_all-put_after p x f [] hf hb = refl
@@ -73,45 +68,21 @@ open_at-IsArrangement h b named =
 
 -- two kinds that are one
 pub is_kind-same : (k l : Kind) → is_kind k l ≡ true → k ≡ l
-is_kind-same Free l h = sym (free_is l h)
-is_kind-same Master Free h = absurd (cc h)
-is_kind-same Master Master h = refl
-is_kind-same Master (Ptr q) h = absurd (cc h)
-is_kind-same Master (Rel g) h = absurd (cc h)
-is_kind-same (Ptr p) Free h = absurd (cc h)
-is_kind-same (Ptr p) Master h = absurd (cc h)
-is_kind-same (Ptr p) (Ptr q) h = ap Ptr (eqb-true p q h)
-is_kind-same (Ptr p) (Rel g) h = absurd (cc h)
-is_kind-same (Rel h) Free is = absurd (cc is)
-is_kind-same (Rel h) Master is = absurd (cc is)
-is_kind-same (Rel h) (Ptr q) is = absurd (cc is)
-is_kind-same (Rel h) (Rel g) is = ap Rel (eqb-true h g is)
+is_kind-same v0 v1 v2 = grind arith
 
 -- two kinds that a test distinguishes
 pub other_kind : (k l : Kind) (q : Kind → Bool) (c : Bool) → q k ≡ not c → q l ≡ c → is_kind k l ≡ false
-other_kind k l q c here there = false_from_ne_true (is_kind k l) (λ is. let same = ap q (is_kind-same k l is) in apart c (sym there ∙ sym same ∙ here))
-  where
-    apart : (c : Bool) → c ≡ not c → ⊥
-    apart true h = true≢false h
-    apart false h = false≢true h
+other_kind k l q c here there = grind arith
 
 -- a filter by kind leaves all blocks of a kind that it lets through
 pub sizes-filter_all : (k : Kind) (q : Kind → Bool) (b : ZoneMap) → q k ≡ true → sizes (is_kind k) (filter (λ (e : Entry). q e.kind) b) ≡ sizes (is_kind k) b
 sizes-filter_all k q [] h = refl
-sizes-filter_all k q (e ∷ es) h =
-    elim (q e.kind) as (λ c. q e.kind ≡ c → sizes (is_kind k) (cond c (e ∷ filter (λ (e : Entry). q e.kind) es) (filter (λ (e : Entry). q e.kind) es)) ≡ sizes (is_kind k) (e ∷ es)) [
-      | true ↦ λ passes. ap (λ ns. cond (is_kind k e.kind) (e.size ∷ []) [] ++ ns) (sizes-filter_all k q es h)
-      | false ↦ λ fails. sizes-filter_all k q es h ∙ ap (λ c. cond c (e.size ∷ []) [] ++ sizes (is_kind k) es) (sym (other_kind k e.kind q false h fails))
-    ] refl
+sizes-filter_all k q (e ∷ es) h = grind (arith, sizes-filter_all k q es h, other_kind)
 
 -- and none of a kind that it holds back
 pub sizes-filter_none : (k : Kind) (q : Kind → Bool) (b : ZoneMap) → q k ≡ false → sizes (is_kind k) (filter (λ (e : Entry). q e.kind) b) ≡ []
 sizes-filter_none k q [] h = refl
-sizes-filter_none k q (e ∷ es) h =
-    elim (q e.kind) as (λ c. q e.kind ≡ c → sizes (is_kind k) (cond c (e ∷ filter (λ (e : Entry). q e.kind) es) (filter (λ (e : Entry). q e.kind) es)) ≡ []) [
-      | true ↦ λ passes. ap (λ c. cond c (e.size ∷ []) [] ++ sizes (is_kind k) (filter (λ (e : Entry). q e.kind) es)) (other_kind k e.kind q true h passes) ∙ sizes-filter_none k q es h
-      | false ↦ λ fails. sizes-filter_none k q es h
-    ] refl
+sizes-filter_none k q (e ∷ es) h = grind (arith, sizes-filter_none k q es h, other_kind)
 
 list_all-filter : (p q : Entry → Bool) (b : ZoneMap) → list_all p b ≡ true → list_all p (filter q b) ≡ true
 list_all-filter p q [] h = refl
@@ -122,26 +93,15 @@ list_all-filter p q (e ∷ es) h = let parts = and_parts _ _ h in elim (q e) as 
 
 total_size-filter : (q : Entry → Bool) (b : ZoneMap) → total_size (filter (λ e. not (q e)) b) + total_size (filter q b) ≡ total_size b
 total_size-filter q [] = refl
-total_size-filter q (e ∷ es) = let rest = total_size-filter q es in
-    elim (q e) as (λ c. total_size (cond (not c) (e ∷ filter (λ e. not (q e)) es) (filter (λ e. not (q e)) es)) + total_size (cond c (e ∷ filter q es) (filter q es)) ≡ e.size + total_size es) [
-      | true ↦ omega arith
-      | false ↦ omega arith
-    ]
+total_size-filter q (e ∷ es) = grind (arith, total_size-filter q es)
 
 all_used-named : (h : ℕ) (b : ZoneMap) → all_used (filter (λ (e : Entry). is_named h e.kind) b) ≡ true
 all_used-named h [] = refl
-all_used-named h (e ∷ es) = elim (is_named h e.kind) as (λ c. is_named h e.kind ≡ c → all_used (cond c (e ∷ filter (λ (e : Entry). is_named h e.kind) es) (filter (λ (e : Entry). is_named h e.kind) es)) ≡ true) [
-  | true ↦ λ named. and_from _ _ (ap not (named-used h e.kind named)) (all_used-named h es)
-  | false ↦ λ other. all_used-named h es
-] refl
+all_used-named h (e ∷ es) = grind (arith, all_used-named h es, all_used, and_from, named-used)
 
 named-used_blocks : (h : ℕ) (b : ZoneMap) → filter (λ (e : Entry). is_named h e.kind) (used_blocks b) ≡ filter (λ (e : Entry). is_named h e.kind) b
 named-used_blocks h [] = refl
-named-used_blocks h (e ∷ es) =
-    elim (is_free e.kind) as (λ c. is_free e.kind ≡ c → filter (λ (e : Entry). is_named h e.kind) (cond (not c) (e ∷ used_blocks es) (used_blocks es)) ≡ filter (λ (e : Entry). is_named h e.kind) (e ∷ es)) [
-      | true ↦ λ free. named-used_blocks h es ∙ ap (λ k. let rest = filter (λ (e : Entry). is_named h e.kind) es in cond (is_named h k) (e ∷ rest) rest) (sym (free_is e.kind free))
-      | false ↦ λ used. ap (λ rest. cond (is_named h e.kind) (e ∷ rest) rest) (named-used_blocks h es)
-    ] refl
+named-used_blocks h (e ∷ es) = grind (arith, named-used_blocks h es, free_is)
 
 -- the blocks in use but those of h, and those of h
 abbrev others_of : ℕ → ZoneMap → ZoneMap

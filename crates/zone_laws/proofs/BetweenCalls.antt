@@ -64,10 +64,7 @@ answers_are_calls s a heap call others = plain-from s (protected_by call) a.call
 
 slots-unless : (call : ReleasingCall) (heap : Heap) (o : Option OsErr) → disposes_of_none call ≡ true
     → (heap_unless o (heap_released call heap) heap).free_slots ≡ heap.free_slots
-slots-unless call heap (Some code) none = refl
-slots-unless (DisposesHandle h) heap None none = absurd (cc none)
-slots-unless (DisposesPtr p) heap None none = refl
-slots-unless (Empties h) heap None none = refl
+slots-unless v0 heap v2 none = grind arith
 
 slots-once : (s : Shape) (protected : List ℕ) (call : ReleasingCall) (c : Carried) → disposes_of_none call ≡ true
     → (carried_once s protected call c).heap.free_slots ≡ c.heap.free_slots

@@ -223,14 +223,5 @@ purged_until-none enough (g ∷ hs) m h = ap (λ b. cond b [] (g ∷ purged_unti
 
 -- and once they are empty it is enough, or they were all
 pub purged_until-enough : (enough : ZoneMap → Bool) (hs : List ℕ) (heap : Heap) → (enough (with_all_emptied (purged_until enough hs heap.map) heap).map ≡ true) ⊎ (purged_until enough hs heap.map ≡ hs)
-purged_until-enough enough [] heap = inr refl
-purged_until-enough enough (g ∷ hs) heap = elim (enough heap.map) as (λ b. enough heap.map ≡ b
-    → (enough (with_all_emptied (cond b [] (g ∷ purged_until enough hs (released g heap.map))) heap).map ≡ true) ⊎ (cond b [] (g ∷ purged_until enough hs (released g heap.map)) ≡ g ∷ hs)) [
-      | true ↦ λ is. inl is
-      | false ↦ λ _. by_rest (purged_until-enough enough hs (with_emptied heap g))
-    ] refl
-  where
-    by_rest : (enough (with_all_emptied (purged_until enough hs (released g heap.map)) (with_emptied heap g)).map ≡ true) ⊎ (purged_until enough hs (released g heap.map) ≡ hs)
-        → (enough (with_all_emptied (g ∷ purged_until enough hs (released g heap.map)) heap).map ≡ true) ⊎ (g ∷ purged_until enough hs (released g heap.map) ≡ g ∷ hs)
-    by_rest (inl is) = inl is
-    by_rest (inr all) = inr (ap (λ hs. g ∷ hs) all)
+purged_until-enough enough [] heap = grind arith
+purged_until-enough enough (g ∷ hs) heap = grind (arith, purged_until-enough enough hs (with_emptied heap g))

@@ -1,7 +1,7 @@
 -- What stays as it is in the table while a request runs: whatever still has a block, and what is protected.
-use Rattle.std.proofs.Common.{◌≡◌, ℕ, Bool, true, false, eqb, List, [], ◌∷◌, Option, Some, None, Contains, refl, ap, sym, subst, ◌∙◌, inl, inr}
+use Rattle.std.proofs.Common.{arith, ◌≡◌, ℕ, Bool, true, false, eqb, List, [], ◌∷◌, Option, Some, None, Contains, refl, ap, sym, subst, ◌∙◌, inl, inr}
 use Rattle.std.specs.Prelude.{◌&&◌, ◌||◌, ◌⊎◌, Ok, Err, ⊤}
-use Rattle.std.proofs.lemmas.Bool.{true≢false, eqb-true}
+use Rattle.std.proofs.lemmas.Bool.{true≢false}
 use Rattle.mac_base.specs.declared.error.OsErr.{OsErr}
 use Rattle.mac_base.specs.declared.error.OsErr.TheVariants.{MemFullErr}
 use Rattle.mac_base.specs.declared.releasing.ReleasingCall.{ReleasingCall}
@@ -53,10 +53,7 @@ fewer-same protected a b c is fewer = subst (λ t. Fewer protected a t) (sym is)
 
 -- what is protected is none that isn't
 among_apart : (protected : List ℕ) (x y : ℕ) → is_among protected x ≡ false → is_among protected y ≡ true → eqb y x ≡ false
-among_apart protected x y other guarded = elim (eqb y x) as (λ b. eqb y x ≡ b → b ≡ false) [
-  | true ↦ λ same. absurd (true≢false (sym guarded ∙ ap (is_among protected) (eqb-true y x same) ∙ other))
-  | false ↦ λ _. refl
-] refl
+among_apart protected x y other guarded = grind arith
 
 -- a call that releases a block changes no other
 pub released-agrees : (call : ReleasingCall) (heap : Heap) → AgreeBut (operand_of call) heap.table (heap_released call heap).table

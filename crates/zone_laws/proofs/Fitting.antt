@@ -1,23 +1,21 @@
 -- A request for a new block or a reservation is served exactly where it fits.
-use Rattle.std.proofs.Common.{◌≡◌, ℕ, ◌<◌, ◌≤◌, Bool, true, false, cond, [], ◌∷◌, ◌++◌, refl, ap, sym, ◌∙◌, inl, inr, arith, Some, None, Option}
-use Rattle.std.specs.Prelude.{◌||◌, ◌⊎◌, ◌==◌, nat_le, is_some, option_map, option_and_then}
+use Rattle.std.proofs.Common.{◌≡◌, ℕ, ◌<◌, ◌≤◌, Bool, true, [], ◌∷◌, refl, ◌∙◌, arith, Some, None, Option}
+use Rattle.std.specs.Prelude.{◌||◌, nat_le, is_some, option_map, option_and_then}
 use Rattle.std.specs.Option.{option_or}
 use Rattle.std.specs.List.{list_any}
-use Rattle.std.proofs.lemmas.Bool.{or_left, or_right, or_cases, le-leb, eqb-true}
+use Rattle.std.proofs.lemmas.Bool.{or_left, or_right, or_cases, le-leb}
 use Rattle.std.proofs.lemmas.List.Folds.{list_any-append}
-use Rattle.mac_base.specs.declared.block.HeadKind.{HeadKind}
-use Rattle.mac_base.specs.declared.block.HeadKind.TheVariants.{Bits24, Bits32}
 use Rattle.mac_base.specs.declared.block.Kind.{Kind}
 use Rattle.mac_base.specs.declared.block.Kind.TheVariants.{Free, Master, Ptr, Rel}
-use Rattle.mac_base.specs.HeadKind.{Shape, need}
+use Rattle.mac_base.specs.HeadKind.{Shape}
 use Rattle.mac_base.specs.ZoneMap.{ZoneMap, block, free_block, has_free, free_bytes, released}
 use Rattle.mac_base.specs.HandleTable.{HandleTable}
 use Rattle.mac_base.specs.Gap.{Gap, gaps, filled, room, lowest_gap, some_gap_has}
-use Rattle.mac_base.specs.Arrangement.{used_blocks, down, up}
+use Rattle.mac_base.specs.Arrangement.{down}
 use Rattle.mac_base.specs.declared.request.Request.{Request}
 use Rattle.mac_base.specs.declared.request.Request.TheVariants.{NewBlock, NewEmpty, NewPointer, NewMaster, Reserve, Replace}
-use Rattle.mac_base.specs.Request.{size_needed, length_asked, fits}
-use Rattle.mac_base.specs.Serve.{taken, take_lowest, placed_relocatable, placed_fixed, reserved, begins_free, cleared, contents_at_gap, gives, serve}
+use Rattle.mac_base.specs.Request.{size_needed, fits}
+use Rattle.mac_base.specs.Serve.{take_lowest, placed_relocatable, placed_fixed, reserved, begins_free, cleared, gives, serve}
 use Rattle.zone_laws.proofs.GapParts.{lowest_gap-is}
 use Rattle.zone_laws.proofs.GapRoom.{is_some-find, some_gap_has-free}
 
@@ -33,39 +31,24 @@ is_some-or (Some a) p = refl
 
 -- a request needs some bytes
 pub size_needed-positive : (s : Shape) (r : Request) → 0 < size_needed s r
-size_needed-positive s r = positive s.heads (length_asked r)
-  where
-    positive : (heads : HeadKind) (n : ℕ) → 0 < need heads n
-    positive Bits24 n = omega arith
-    positive Bits32 n = omega arith
+size_needed-positive s r = grind arith
 
 -- a block is taken where a free one has k bytes
 pub is_some-take_lowest : (s : Shape) (k : ℕ) (kind : Kind) (m : ZoneMap) → is_some (take_lowest s k kind m) ≡ list_any (has_free k) m
 is_some-take_lowest s k kind [] = refl
-is_some-take_lowest s k kind (e ∷ es) = elim (has_free k e) as (λ c. is_some (cond c (Some (taken s k kind e.size ++ es)) (option_map (λ m. e ∷ m) (take_lowest s k kind es))) ≡ (c || list_any (has_free k) es)) [
-  | true ↦ refl
-  | false ↦ is_some-map (λ m. e ∷ m) (take_lowest s k kind es) ∙ is_some-take_lowest s k kind es
-]
+is_some-take_lowest s k kind (e ∷ es) = grind (arith, is_some-take_lowest s k kind es, is_some-map)
 
 -- one free block of n bytes, where n is not 0
 pub free_block-some : (n : ℕ) → 0 < n → free_block n ≡ block Free n ∷ []
-free_block-some n h = elim (n == 0) as (λ c. (n == 0) ≡ c → cond c [] (block Free n ∷ []) ≡ block Free n ∷ []) [
-  | true ↦ λ none. let e = eqb-true n 0 none in absurd (omega arith)
-  | false ↦ λ some. refl
-] refl
+free_block-some n h = grind arith
 
 -- blocks with room for k bytes, arranged down, have a free block of as many
 pub has_free-down : (k : ℕ) (b : ZoneMap) → 0 < k → k ≤ free_bytes b → list_any (has_free k) (down b) ≡ true
-has_free-down k b some fits =
-    ap (λ f. list_any (has_free k) (used_blocks b ++ f)) (free_block-some (free_bytes b) (omega arith))
-    ∙ list_any-append (has_free k) (used_blocks b) (block Free (free_bytes b) ∷ []) ∙ or_right _ _ (or_left _ _ (le-leb k (free_bytes b) fits))
+has_free-down k b some fits = grind (arith, free_block-some, le-leb, list_any-append, or_left, or_right)
 
 -- and cleared they begin with one
 pub begins_free-cleared : (k : ℕ) (b : ZoneMap) → 0 < k → k ≤ free_bytes b → begins_free k (cleared k b) ≡ true
-begins_free-cleared k b some fits = elim (begins_free k b) as (λ c. begins_free k b ≡ c → begins_free k (cond c b (up b)) ≡ true) [
-  | true ↦ λ begins. begins
-  | false ↦ λ not_so. ap (λ f. begins_free k (f ++ used_blocks b)) (free_block-some (free_bytes b) (omega arith)) ∙ le-leb k (free_bytes b) fits
-] refl
+begins_free-cleared k b some fits = grind arith
 
 -- what begins with a free block of k bytes has one
 pub has_free-begins : (k : ℕ) (b : ZoneMap) → begins_free k b ≡ true → list_any (has_free k) b ≡ true
@@ -73,10 +56,7 @@ has_free-begins k [] h = h
 has_free-begins k (e ∷ es) h = or_left _ _ h
 
 same_truth : (a b : Bool) → (a ≡ true → b ≡ true) → (b ≡ true → a ≡ true) → a ≡ b
-same_truth true true there back = refl
-same_truth true false there back = sym (there refl)
-same_truth false true there back = back refl
-same_truth false false there back = refl
+same_truth v0 v1 there back = grind arith
 
 -- where a gap has room for k bytes, the lowest such gap is found
 pub is_some-lowest_gap : (t : HandleTable) (k : ℕ) (m : ZoneMap) → is_some (lowest_gap k (gaps t m)) ≡ some_gap_has k (gaps t m)
@@ -93,23 +73,11 @@ is_some-in_lowest f t k m there =
 
 -- a relocatable block is placed exactly where a gap has room
 pub is_some-placed_relocatable : (s : Shape) (t : HandleTable) (k : ℕ) (kind : Kind) (m : ZoneMap) → 0 < k → is_some (placed_relocatable s t k kind m) ≡ some_gap_has k (gaps t m)
-is_some-placed_relocatable s t k kind m some =
-    is_some-or (take_lowest s k kind m) _ ∙ ap (λ b. b || is_some (option_and_then in_gap (lowest_gap k (gaps t m)))) (is_some-take_lowest s k kind m)
-    ∙ ap (λ b. list_any (has_free k) m || b) (is_some-in_lowest in_gap t k m (λ g fits. is_some-map (filled g) (take_lowest s k kind (down g.blocks)) ∙ is_some-take_lowest s k kind (down g.blocks) ∙ has_free-down k g.blocks some fits))
-    ∙ same_truth _ _ (λ one. by_place (or_cases _ _ one)) (λ has. or_right _ _ has)
-  where
-    in_gap : Gap → Option ZoneMap
-    in_gap g = option_map (filled g) (take_lowest s k kind (down g.blocks))
-
-    by_place : (list_any (has_free k) m ≡ true) ⊎ (some_gap_has k (gaps t m) ≡ true) → some_gap_has k (gaps t m) ≡ true
-    by_place (inl free) = some_gap_has-free t k m free
-    by_place (inr has) = has
+is_some-placed_relocatable s t k kind m some = grind (arith, has_free-down, is_some-in_lowest, is_some-map, is_some-or, is_some-take_lowest, or_cases, or_right, same_truth, some_gap_has-free)
 
 -- a block that stays is placed exactly where a gap has room
 pub is_some-placed_fixed : (s : Shape) (t : HandleTable) (k : ℕ) (kind : ℕ → Kind) (m : ZoneMap) → 0 < k → is_some (placed_fixed s t k kind m) ≡ some_gap_has k (gaps t m)
-is_some-placed_fixed s t k kind m some = is_some-in_lowest _ t k m (λ g fits.
-    is_some-map (λ blocks. (contents_at_gap s g, filled g blocks)) (take_lowest s k (kind (contents_at_gap s g)) (cleared k g.blocks))
-    ∙ is_some-take_lowest s k (kind (contents_at_gap s g)) (cleared k g.blocks) ∙ has_free-begins k (cleared k g.blocks) (begins_free-cleared k g.blocks some fits))
+is_some-placed_fixed s t k kind m some = grind (arith, begins_free-cleared, has_free-begins, is_some-in_lowest, is_some-map, is_some-take_lowest)
 
 -- a reservation is made exactly where a gap has room
 pub is_some-reserved : (t : HandleTable) (k : ℕ) (m : ZoneMap) → is_some (reserved t k m) ≡ some_gap_has k (gaps t m)

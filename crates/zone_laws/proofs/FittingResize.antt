@@ -1,21 +1,20 @@
 -- A request for another size is served exactly where it fits.
-use Rattle.std.proofs.Common.{◌≡◌, ℕ, ◌+◌, ◌<◌, ◌≤◌, Bool, true, false, not, cond, List, [], ◌∷◌, ◌++◌, length, refl, ap, sym, ◌∙◌, inl, inr, arith, Some, None, Option}
-use Rattle.std.specs.Prelude.{◌&&◌, ◌||◌, ◌⊎◌, nat_le, is_some, option_map, option_and_then}
+use Rattle.std.proofs.Common.{◌≡◌, ℕ, ◌+◌, ◌<◌, ◌≤◌, Bool, true, false, not, cond, List, [], ◌∷◌, ◌++◌, length, refl, ap, sym, ◌∙◌, arith, Some, None, Option}
+use Rattle.std.specs.Prelude.{◌&&◌, ◌||◌, nat_le, is_some, option_and_then}
 use Rattle.std.specs.Option.{option_or}
 use Rattle.std.specs.List.{list_any}
 use Rattle.std.proofs.lemmas.Bool.{and_from, and_parts, or_left, or_right, or_cases, leb-true, le-leb, not-true}
 use Rattle.std.proofs.lemmas.List.Folds.{list_any-append}
 use Rattle.mac_base.specs.declared.block.Entry.{Entry}
-use Rattle.mac_base.specs.declared.block.Kind.TheVariants.{Rel}
 use Rattle.mac_base.specs.HeadKind.{Shape}
-use Rattle.mac_base.specs.ZoneMap.{ZoneMap, block, free_block, is_named, free_bytes, sizes, released}
+use Rattle.mac_base.specs.ZoneMap.{ZoneMap, block, free_block, is_named, free_bytes, sizes}
 use Rattle.mac_base.specs.HandleTable.{HandleTable}
 use Rattle.mac_base.specs.Suits.{Suits}
 use Rattle.mac_base.specs.Gap.{Gap, gaps, filled, room, is_fixed, has_named, some_gap_has, own_gap, gap_after}
 use Rattle.mac_base.specs.Arrangement.{used_blocks, up, open_at}
 use Rattle.mac_base.specs.declared.request.Request.TheVariants.{Resize}
 use Rattle.mac_base.specs.Request.{size_needed, size_of, stays, gap_to_grow, room_of, can_grow, fits}
-use Rattle.mac_base.specs.Serve.{free_in_front, resized_in_place, opened_for, resized_in_gap, resized_elsewhere, resized_block, placed_relocatable, renamed, gives, serve}
+use Rattle.mac_base.specs.Serve.{free_in_front, resized_in_place, opened_for, resized_in_gap, resized_elsewhere, resized_block, gives, serve}
 use Rattle.zone_laws.proofs.GapAppend.{free_bytes-append}
 use Rattle.zone_laws.proofs.GapParts.{IsGap, own_gap-is, gap_after-is}
 use Rattle.zone_laws.proofs.GapRoom.{is_some-find, gap_of_block, gap_after-found}
@@ -51,20 +50,11 @@ grows_after s t k x n m g fixed i p = record {
 
 list_any-weaker : (p q : Entry → Bool) (m : ZoneMap) → ((e : Entry) → p e ≡ true → q e ≡ true) → list_any p m ≡ true → list_any q m ≡ true
 list_any-weaker p q [] weaker h = h
-list_any-weaker p q (e ∷ es) weaker h = by_place (or_cases (p e) (list_any p es) h) (list_any-weaker p q es weaker)
-  where
-    by_place : (p e ≡ true) ⊎ (list_any p es ≡ true) → (list_any p es ≡ true → list_any q es ≡ true) → (q e || list_any q es) ≡ true
-    by_place (inl here) rest = or_left _ _ (weaker e here)
-    by_place (inr there) rest = or_right _ _ (rest there)
+list_any-weaker p q (e ∷ es) weaker h = grind (arith, list_any-weaker p q es weaker, or_cases, or_left, or_right)
 
 gap_any_weaker : (p q : Entry → Bool) (gs : List Gap) → ((e : Entry) → p e ≡ true → q e ≡ true) → list_any (λ (g : Gap). list_any p g.blocks) gs ≡ true → list_any (λ (g : Gap). list_any q g.blocks) gs ≡ true
 gap_any_weaker p q [] weaker h = h
-gap_any_weaker p q (g ∷ gs) weaker h = by_place (or_cases (list_any p g.blocks) _ h) (gap_any_weaker p q gs weaker)
-  where
-    by_place : (list_any p g.blocks ≡ true) ⊎ (list_any (λ (g : Gap). list_any p g.blocks) gs ≡ true) → (list_any (λ (g : Gap). list_any p g.blocks) gs ≡ true → list_any (λ (g : Gap). list_any q g.blocks) gs ≡ true)
-        → (list_any q g.blocks || list_any (λ (g : Gap). list_any q g.blocks) gs) ≡ true
-    by_place (inl here) rest = or_left _ _ (list_any-weaker p q g.blocks weaker here)
-    by_place (inr there) rest = or_right _ _ (rest there)
+gap_any_weaker p q (g ∷ gs) weaker h = grind (arith, gap_any_weaker p q gs weaker, list_any-weaker, or_cases, or_left, or_right)
 
 -- whether x names a block, and it may move
 abbrev named_moves : HandleTable → ℕ → Entry → Bool
@@ -127,10 +117,7 @@ in_place_room : (s : Shape) (t : HandleTable) (k x n : ℕ) (m : ZoneMap) → Gr
 in_place_room s t k x n m g is = let grows = g.grows in ap (λ o. nat_le k (n + room_of o)) g.found ∙ grows.in_place is
 
 is_some-elsewhere : (s : Shape) (t : HandleTable) (k x : ℕ) (m : ZoneMap) → 0 < k → is_some (resized_elsewhere s t k x m) ≡ (not (stays t x) && some_gap_has k (gaps t m))
-is_some-elsewhere s t k x m some = elim (stays t x) as (λ c. is_some (cond c None (option_map (λ found. renamed 0 x (released x found)) (placed_relocatable s t k (Rel 0) m))) ≡ (not c && some_gap_has k (gaps t m))) [
-  | true ↦ refl
-  | false ↦ is_some-map (λ found. renamed 0 x (released x found)) (placed_relocatable s t k (Rel 0) m) ∙ is_some-placed_relocatable s t k (Rel 0) m some
-]
+is_some-elsewhere s t k x m some = grind (arith, is_some-map, is_some-placed_relocatable)
 
 absorbs : (a b c : Bool) → (a ≡ true → b ≡ true) → (a || (b || c)) ≡ (b || c)
 absorbs true b c h = sym (or_left b c (h refl))
@@ -138,10 +125,7 @@ absorbs false b c h = refl
 
 -- it can be exactly where the gap in which it can grow has them with it
 pub is_some-resized_in_gap : (s : Shape) (t : HandleTable) (k x : ℕ) (m : ZoneMap) → Suits s t m → length (sizes (is_named x) m) ≡ 1 → is_some (resized_in_gap s t k x m) ≡ nat_le k (size_of x m + room_of (gap_to_grow t x m))
-is_some-resized_in_gap s t k x m suits once =
-    let one = one_size (sizes (is_named x) m) once in
-    let n : ℕ = one.0 in
-    in_gap_room s t k x n m (growing s t k x n m suits one.1 (first_named x m (some_named x n m one.1))) ∙ ap (λ n. nat_le k (n + room_of (gap_to_grow t x m))) (sym (size_of-At x m n one.1))
+is_some-resized_in_gap s t k x m suits once = grind (arith, first_named, growing, in_gap_room, one_size, size_of-At, some_named)
 
 -- the block of x can be made k bytes long exactly where it can grow to them
 pub is_some-resized_block : (s : Shape) (t : HandleTable) (k x : ℕ) (m : ZoneMap) → 0 < k → Suits s t m → length (sizes (is_named x) m) ≡ 1 → is_some (resized_block s t k x m) ≡ can_grow t x k m

@@ -1,10 +1,8 @@
 -- Two tables that lock the same handles and have the same pointers: the same requests fit, and the same blocks may be
 -- purged for them.
-use Rattle.std.proofs.Common.{◌≡◌, ℕ, ◌+◌, Bool, not, cond, List, [], ◌∷◌, refl, ap, ◌∙◌}
+use Rattle.std.proofs.Common.{arith, ◌≡◌, ℕ, ◌+◌, Bool, not, cond, List, [], ◌∷◌, refl, ap, ◌∙◌}
 use Rattle.std.specs.Prelude.{◌||◌, ◌&&◌, nat_le}
-use Rattle.std.specs.Option.{option_map_or}
 use Rattle.mac_base.specs.declared.block.Kind.{Kind}
-use Rattle.mac_base.specs.declared.block.Kind.TheVariants.{Free, Master, Ptr, Rel}
 use Rattle.mac_base.specs.HeadKind.{Shape}
 use Rattle.mac_base.specs.ZoneMap.{ZoneMap}
 use Rattle.mac_base.specs.HandleTable.{HandleTable, is_locked, is_pointer}
@@ -28,10 +26,7 @@ pub fixes-then : (t u v : HandleTable) → FixesSame t u → FixesSame u v → F
 fixes-then t u v a b = record { locked = λ x. b.locked x ∙ a.locked x; pointer = λ x. b.pointer x ∙ a.pointer x }
 
 fixed-kind : (t u : HandleTable) → FixesSame t u → (k : Kind) → is_fixed u k ≡ is_fixed t k
-fixed-kind t u same Free = refl
-fixed-kind t u same Master = refl
-fixed-kind t u same (Ptr p) = refl
-fixed-kind t u same (Rel h) = same.locked h
+fixed-kind t u same v3 = grind arith
 
 -- the same blocks are fixed
 pub fixed-same : (t u : HandleTable) → FixesSame t u → is_fixed u ≡ is_fixed t
@@ -68,7 +63,5 @@ blocks_to_purge-same t u same NewEmpty m = refl
 blocks_to_purge-same t u same (NewPointer n) m = refl
 blocks_to_purge-same t u same NewMaster m = refl
 blocks_to_purge-same t u same (Reserve n) m = refl
-blocks_to_purge-same t u same (Resize x n) m =
-    ap (λ b. cond b (option_map_or (λ (g : Gap). g.blocks) (gap_after x (gaps u m)) []) m) (stays-same t u same x)
-    ∙ ap (λ gs. cond (stays t x) (option_map_or (λ (g : Gap). g.blocks) (gap_after x gs) []) m) (gaps-same t u same m)
+blocks_to_purge-same t u same (Resize x n) m = grind (arith, gaps-same, stays-same)
 blocks_to_purge-same t u same (Replace h n) m = refl

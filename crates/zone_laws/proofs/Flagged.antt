@@ -1,5 +1,5 @@
 -- Every handle has the flags last set.
-use Rattle.std.proofs.Common.{◌≡◌, ℕ, true, false, cond, eqb, take, List, [], ◌∷◌, ◌++◌, Option, Some, None, Ok, Err, MatchOption, refl, ap, sym, subst, ◌∙◌}
+use Rattle.std.proofs.Common.{arith, ◌≡◌, ℕ, true, false, cond, eqb, take, List, [], ◌∷◌, ◌++◌, Option, Some, None, Ok, Err, MatchOption, refl, ap, sym, subst, ◌∙◌}
 use Rattle.std.specs.Prelude.{⊤}
 use Rattle.std.proofs.lemmas.Bool.{or_left}
 use Rattle.mac_base.specs.declared.block.Flags.{Flags}
@@ -52,10 +52,7 @@ flags-kept x l t new last holds is has =
     (λ y apart h. ap live_flags (agree.others y apart) ∙ has y (sym (ap live_full (agree.others y apart)) ∙ h)))
 
 refilled-flags : (bytes : List ℕ) (o : Option Live) (flags : Flags) → (live_full o ≡ true → live_flags o ≡ flags) → live_full (Some (refilled bytes o)) ≡ true → live_flags (Some (refilled bytes o)) ≡ flags
-refilled-flags bytes None flags has h = absurd (cc h)
-refilled-flags bytes (Some EmptyHandle) flags has h = absurd (cc h)
-refilled-flags bytes (Some (FullHandle f old)) flags has h = has refl
-refilled-flags bytes (Some (Pointer old)) flags has h = absurd (cc h)
+refilled-flags bytes v1 flags has h = grind arith
 
 pub flags-written : (x : ℕ) (bytes : List ℕ) (t : HandleTable) (last : LastSet) → HasFlags t last → HasFlags (with_bytes x bytes t) last
 flags-written x bytes t last has = flags-kept x (refilled bytes (live_at t x)) t (with_bytes x bytes t) last (refilled-flags bytes (live_at t x) (last x) (has x)) refl has
@@ -97,23 +94,7 @@ flags-copied call g entry t last has = has
 
 -- a call sets what its request does
 request-sets : (t : HandleTable) (call : MemoryCall) (x : ℕ) (last : LastSet) → MatchOption (request_of t call) ⊤ (λ r. set_with call (given_results call x) last ≡ set_granted r x last)
-request-sets t (memory_call.Requesting (requesting_call.NewHandle n)) x last = refl
-request-sets t (memory_call.Requesting requesting_call.NewEmptyHandle) x last = refl
-request-sets t (memory_call.Requesting (requesting_call.NewPtr n)) x last = refl
-request-sets t (memory_call.Requesting requesting_call.MoreMasters) x last = refl
-request-sets t (memory_call.Requesting (requesting_call.ReserveMem n)) x last = refl
-request-sets t (memory_call.Requesting (requesting_call.SetHandleSize h n)) x last = refl
-request-sets t (memory_call.Requesting (requesting_call.SetPtrSize p n)) x last = refl
-request-sets t (memory_call.Requesting (requesting_call.ReallocateHandle h n)) x last = refl
-request-sets t (memory_call.Filling (filling_call.HandToHand h)) x last = refl
-request-sets t (memory_call.Filling (filling_call.PtrToHand p n)) x last = refl
-request-sets t (memory_call.Filling (filling_call.PtrToXHand p h n)) x last = refl
-request-sets t (memory_call.Filling (filling_call.PtrAndHand p h n)) x last = refl
-request-sets t (memory_call.Filling (filling_call.NewHandleOf bytes)) x last = refl
-request-sets t (memory_call.Filling (filling_call.SetHandleTo h bytes)) x last = refl
-request-sets t (memory_call.Filling (filling_call.Append h bytes)) x last = refl
-request-sets t (memory_call.Filling (filling_call.HandAndHand a b)) x last = refl
-request-sets t call x last = tt
+request-sets t v1 x last = grind arith
 
 module _ (s : Shape) (old : Heap) (last : LastSet) (has : HasFlags old.table last) where
   abbrev Ends : MemoryCall → Outcome → Heap → Type 0

@@ -1,5 +1,5 @@
 -- The numbers that requests give are not live: a pointer at the start of a gap, and a free slot.
-use Rattle.std.proofs.Common.{◌≡◌, ℕ, zero, suc, ◌+◌, ◌*◌, ◌<◌, ◌≤◌, Bool, true, false, not, cond, List, [], ◌∷◌, ◌++◌, length, refl, ap, sym, ◌∙◌, subst, append_assoc, add_assoc, arith, Some, None, Option, get_or}
+use Rattle.std.proofs.Common.{◌≡◌, ℕ, zero, suc, ◌+◌, ◌*◌, ◌<◌, ◌≤◌, Bool, true, false, not, cond, List, [], ◌∷◌, ◌++◌, length, refl, ap, sym, ◌∙◌, subst, append_assoc, add_assoc, arith, None, get_or}
 use Rattle.std.specs.Prelude.{◌&&◌, ◌||◌, ◌==◌, Contains, map, flat_map, nat_lt, nat_le}
 use Rattle.std.specs.List.{list_all}
 use Rattle.std.proofs.lemmas.Bool.{and_from, and_parts, lt-ltb, ltb-true, le-leb, leb-true, ne_eqb, eq-eqb, not-true, true≢false, false≢true, false_from_ne_true}
@@ -13,7 +13,7 @@ use Rattle.mac_base.specs.declared.block.Kind.{Kind}
 use Rattle.mac_base.specs.declared.block.Kind.TheVariants.{Free, Master, Ptr, Rel}
 use Rattle.mac_base.specs.HeadKind.{Shape, head_size, smallest_block, slot_count, master_length, need}
 use Rattle.mac_base.specs.ZoneMap.{ZoneMap, block, is_free, is_master, total_size, free_bytes, address_after, addresses_from, addresses, contents_addresses}
-use Rattle.mac_base.specs.HandleTable.{HandleTable, Live, EmptyHandle, FullHandle, Pointer, live_at, live_handle, live_pointer, is_handle, is_pointer}
+use Rattle.mac_base.specs.HandleTable.{HandleTable, live_at, is_handle, is_pointer}
 use Rattle.mac_base.specs.Suits.{Suits, slots_from, slots, has_owners_length, is_block_size, is_pointer_block}
 use Rattle.mac_base.specs.Gap.{Gap, room, is_fixed}
 use Rattle.mac_base.specs.Serve.{contents_at_gap}
@@ -62,10 +62,7 @@ addresses-below s at test (e ∷ es) h =
 -- and none begins below the address of the first
 pub addresses-above : (at low : ℕ) (test : Kind → Bool) (b : ZoneMap) → low ≤ at → list_all (λ n. nat_le low n) (addresses_from at test b) ≡ true
 addresses-above at low test [] h = refl
-addresses-above at low test (e ∷ es) h = elim (test e.kind) as (λ c. list_all (λ n. nat_le low n) (cond c (at ∷ []) [] ++ addresses_from (at + e.size) test es) ≡ true) [
-  | true ↦ and_from (nat_le low at) _ (le-leb low at h) (addresses-above (at + e.size) low test es (omega arith))
-  | false ↦ addresses-above (at + e.size) low test es (omega arith)
-]
+addresses-above at low test (e ∷ es) h = grind (arith, addresses-above (at + e.size) low test es (omega arith), and_from, le-leb)
 
 -- the slots of the master blocks among these, the first at this address
 abbrev slots_at : Shape → ℕ → ZoneMap → List ℕ
@@ -80,11 +77,7 @@ abbrev masters_whole : Shape → ZoneMap → Bool
 masters_whole s b = list_all (λ (e : Entry). not (is_master e.kind) || nat_le (head_size s.heads + 256) e.size) b
 
 between-weaker : (l h low high : ℕ) (ns : List ℕ) → low ≤ l → h ≤ high → list_all (λ q. nat_le l q && nat_lt q h) ns ≡ true → list_all (λ q. nat_le low q && nat_lt q high) ns ≡ true
-between-weaker l h low high ns below above all = weaker (λ q. nat_le l q && nat_lt q h) (λ q. nat_le low q && nat_lt q high) ns (λ q both.
-    let parts = and_parts (nat_le l q) (nat_lt q h) both in
-    let le = leb-true l q parts.0 in
-    let lt = ltb-true q h parts.1 in
-    and_from (nat_le low q) (nat_lt q high) (le-leb low q (omega arith)) (lt-ltb q high (omega arith))) all
+between-weaker l h low high ns below above all = grind (arith, and_from, and_parts, le-leb, leb-true, lt-ltb, ltb-true, weaker)
 
 slots-between : (s : Shape) (at : ℕ) (b : ZoneMap) → masters_whole s b ≡ true → list_all (λ q. nat_le (at + head_size s.heads) q && nat_lt q (at + total_size b)) (slots_at s at b) ≡ true
 slots-between s at [] h = refl
@@ -99,10 +92,7 @@ slots-between s at (e ∷ es) h =
     ] parts.0
 
 slots_at-append : (s : Shape) (at : ℕ) (a b : ZoneMap) → slots_at s at (a ++ b) ≡ slots_at s at a ++ slots_at s (at + total_size a) b
-slots_at-append s at a b =
-    ap (λ ns. flat_map (slots_from slot_count) (map (λ at. at + head_size s.heads) ns)) (addresses_from-append at is_master a b)
-    ∙ ap (flat_map (slots_from slot_count)) (map-append (λ at. at + head_size s.heads) (addresses_from at is_master a) (addresses_from (at + total_size a) is_master b))
-    ∙ flat_map-append (slots_from slot_count) (map (λ at. at + head_size s.heads) (addresses_from at is_master a)) (map (λ at. at + head_size s.heads) (addresses_from (at + total_size a) is_master b))
+slots_at-append s at a b = grind (arith, addresses_from-append, flat_map-append, map-append)
 
 -- a block has room for its header and its contents
 pub need-above : (heads : HeadKind) (n : ℕ) → head_size heads + n ≤ need heads n
@@ -166,16 +156,10 @@ block_weaker p q [] w h = refl
 block_weaker p q (e ∷ es) w h = let parts = and_parts (p e) (list_all p es) h in and_from (q e) (list_all q es) (w e parts.0) (block_weaker p q es w parts.1)
 
 moves_no_master : (t : HandleTable) (k : Kind) → not (is_fixed t k) ≡ true → not (is_master k) ≡ true
-moves_no_master t Free h = refl
-moves_no_master t Master h = h
-moves_no_master t (Ptr p) h = refl
-moves_no_master t (Rel g) h = refl
+moves_no_master t v1 h = grind arith
 
 moves_no_pointer : (t : HandleTable) (x : ℕ) (k : Kind) → not (is_fixed t k) ≡ true → not (is_pointer_block x k) ≡ true
-moves_no_pointer t x Free h = refl
-moves_no_pointer t x Master h = refl
-moves_no_pointer t x (Ptr p) h = absurd (cc h)
-moves_no_pointer t x (Rel g) h = refl
+moves_no_pointer t x v2 h = grind arith
 
 free_bytes-le : (b : ZoneMap) → free_bytes b ≤ total_size b
 free_bytes-le [] = omega arith

@@ -1,5 +1,5 @@
 -- Free blocks stay apart, and sizes possible, where the blocks of a gap are arranged.
-use Rattle.std.proofs.Common.{◌≡◌, ℕ, ◌+◌, Bool, true, false, not, cond, [], ◌∷◌, ◌++◌, refl, ap, sym, ◌∙◌, subst, inl, inr, arith}
+use Rattle.std.proofs.Common.{◌≡◌, ℕ, ◌+◌, Bool, true, false, not, cond, [], ◌∷◌, ◌++◌, refl, ap, subst, inl, inr, arith}
 use Rattle.std.specs.Prelude.{◌&&◌, ◌⊎◌}
 use Rattle.std.specs.List.{list_all}
 use Rattle.std.proofs.lemmas.Bool.{and_from, and_parts, and_left, and_right}
@@ -51,26 +51,15 @@ ends_free-fixed t (e ∷ f ∷ es) h = ends_free-fixed t (f ∷ es) h
 
 -- blocks in a gap, in which free blocks are apart: its edges are fixed
 pub free_apart-filled : (t : HandleTable) (m : ZoneMap) (g : Gap) (b : ZoneMap) → IsGap t m g → free_apart m ≡ true → free_apart b ≡ true → free_apart (filled g b) ≡ true
-free_apart-filled t m g b i hm hb =
-    let whole : free_apart (filled g g.blocks) ≡ true = ap free_apart (sym i.parts) ∙ hm in
-    let before = free_apart-front g.before g.blocks (free_apart-front (g.before ++ g.blocks) g.after whole) in
-    let after = free_apart-back (g.before ++ g.blocks) g.after whole in
-    free_apart-append (g.before ++ b) g.after (free_apart-append g.before b before hb (and_left _ _ (ends_free-fixed t g.before i.below))) after (and_right _ _ (starts_free-fixed t g.after i.above))
+free_apart-filled t m g b i hm hb = grind (arith, and_left, and_right, ends_free-fixed, free_apart-append, free_apart-back, free_apart-front, starts_free-fixed)
 
 -- what holds of each block of a map, and of those now in a gap, holds of each block
 pub list_all-filled : (p : Entry → Bool) (t : HandleTable) (m : ZoneMap) (g : Gap) (b : ZoneMap) → IsGap t m g → list_all p m ≡ true → list_all p b ≡ true → list_all p (filled g b) ≡ true
-list_all-filled p t m g b i hm hb =
-    let whole : list_all p (filled g g.blocks) ≡ true = ap (list_all p) (sym i.parts) ∙ hm in
-    let outer = and_parts _ _ (sym (list_all-append p (g.before ++ g.blocks) g.after) ∙ whole) in
-    let inner = and_parts _ _ (sym (list_all-append p g.before g.blocks) ∙ outer.0) in
-    list_all-append p (g.before ++ b) g.after ∙ and_from _ _ (list_all-append p g.before b ∙ and_from _ _ inner.0 hb) outer.1
+list_all-filled p t m g b i hm hb = grind (arith, and_from, and_parts, list_all-append)
 
 -- what holds of each block of a map holds of each block of a gap
 pub list_all-gap : (p : Entry → Bool) (t : HandleTable) (m : ZoneMap) (g : Gap) → IsGap t m g → list_all p m ≡ true → list_all p g.blocks ≡ true
-list_all-gap p t m g i hm =
-    let whole : list_all p (filled g g.blocks) ≡ true = ap (list_all p) (sym i.parts) ∙ hm in
-    let outer = and_parts _ _ (sym (list_all-append p (g.before ++ g.blocks) g.after) ∙ whole) in
-    (and_parts _ _ (sym (list_all-append p g.before g.blocks) ∙ outer.0)).1
+list_all-gap p t m g i hm = grind (arith, and_parts, list_all-append)
 
 sum_possible : (s : Shape) (n r : ℕ) → is_block_size s n ≡ true → (r ≡ 0) ⊎ (is_block_size s r ≡ true) → is_block_size s (n + r) ≡ true
 sum_possible s n r h (inl none) = grind (arith, nat_tests)
@@ -95,6 +84,4 @@ free_apart-arranged t m g b i a h = free_apart-filled t m g b i h a.apart
 
 -- and sizes possible
 pub sizes_possible-arranged : (s : Shape) (t : HandleTable) (m : ZoneMap) (g : Gap) (b : ZoneMap) → IsGap t m g → IsArrangement g.blocks b → sizes_possible s m ≡ true → sizes_possible s (filled g b) ≡ true
-sizes_possible-arranged s t m g b i a h =
-    let blocks = list_all-gap (λ (e : Entry). is_block_size s e.size) t m g i h in
-    list_all-filled (λ (e : Entry). is_block_size s e.size) t m g b i h (a.kept (λ (e : Entry). is_block_size s e.size) blocks (free_bytes-possible s g.blocks blocks))
+sizes_possible-arranged s t m g b i a h = grind (arith, free_bytes-possible, list_all-filled, list_all-gap)

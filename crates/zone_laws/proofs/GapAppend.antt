@@ -1,6 +1,6 @@
 -- What is counted and listed of blocks, over two lists of blocks one after the other.
-use Rattle.std.proofs.Common.{◌≡◌, ℕ, suc, ◌+◌, Bool, true, false, not, cond, List, [], ◌∷◌, ◌++◌, length, refl, ap, sym, ◌∙◌, append_assoc, arith}
-use Rattle.std.specs.Prelude.{IsTrue, if◌then◌else◌}
+use Rattle.std.proofs.Common.{◌≡◌, ℕ, ◌+◌, Bool, not, cond, [], ◌∷◌, ◌++◌, length, refl, ap, ◌∙◌, arith}
+use Rattle.std.specs.Prelude.{IsTrue}
 use Rattle.std.specs.List.{list_all}
 use Rattle.std.proofs.lemmas.Bool.{and_parts, not-true}
 use Rattle.mac_base.specs.declared.block.Entry.{Entry}
@@ -15,8 +15,7 @@ free_bytes-append (e ∷ es) b = let rest = free_bytes-append es b in omega arit
 -- the sizes of the blocks that pass a test, in two lists of blocks
 pub sizes-append : (test : Kind → Bool) (a b : ZoneMap) → sizes test (a ++ b) ≡ sizes test a ++ sizes test b
 sizes-append test [] b = refl
-sizes-append test (e ∷ es) b = let first : List ℕ = if test e.kind then e.size ∷ [] else [] in
-    ap (λ ns. first ++ ns) (sizes-append test es b) ∙ sym (append_assoc first (sizes test es) (sizes test b))
+sizes-append test (e ∷ es) b = grind (arith, sizes-append test es b)
 
 -- two tests that agree at each kind are one
 pub same_test : {p q : Kind → Bool} → ((k : Kind) → p k ≡ q k) → p ≡ q
@@ -31,8 +30,4 @@ addresses_from-none at test (e ∷ es) h = let parts = and_parts (not (test e.ki
 -- as many addresses as sizes
 pub length-addresses_from : (at : ℕ) (test : Kind → Bool) (m : ZoneMap) → length (addresses_from at test m) ≡ length (sizes test m)
 length-addresses_from at test [] = refl
-length-addresses_from at test (e ∷ es) =
-    elim (test e.kind) as (λ b. length (cond b (at ∷ []) [] ++ addresses_from (at + e.size) test es) ≡ length (cond b (e.size ∷ []) [] ++ sizes test es)) [
-      | true ↦ ap suc (length-addresses_from (at + e.size) test es)
-      | false ↦ length-addresses_from (at + e.size) test es
-    ]
+length-addresses_from at test (e ∷ es) = grind (arith, length-addresses_from (at + e.size) test es)

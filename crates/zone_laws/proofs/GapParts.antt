@@ -1,5 +1,5 @@
 -- What each gap of a map is: a run of blocks that may move, between blocks that may not.
-use Rattle.std.proofs.Common.{◌≡◌, ℕ, ◌≤◌, Bool, true, false, not, cond, List, [], ◌∷◌, ◌++◌, refl, ap, sym, ◌∙◌, subst, inl, inr}
+use Rattle.std.proofs.Common.{arith, ◌≡◌, ℕ, ◌≤◌, Bool, true, false, not, cond, List, [], ◌∷◌, ◌++◌, refl, ap, sym, ◌∙◌, subst, inl, inr}
 use Rattle.std.specs.Prelude.{Contains, ◌⊎◌, map, find, IsTrue, Some, nat_le}
 use Rattle.std.specs.List.{list_all, All}
 use Rattle.std.proofs.lemmas.List.Elements.{All-contains, All-nil, All-cons, All-map, All-weaker, All-head, All-tail}
@@ -82,9 +82,7 @@ first_gap-IsGap t m = let f = first_is t m in
     record { parts = f.parts ∙ ap (λ b. b ++ (first_gap t m).blocks ++ (first_gap t m).after) (sym f.none_before); moves = f.moves; below = ap (ends_fixed t) f.none_before; above = f.above }
 
 ends_fixed-cons : (t : HandleTable) (e : Entry) (b : ZoneMap) → ends_fixed t b ≡ true → (is_fixed t e.kind ≡ true) ⊎ (has_blocks b ≡ true) → ends_fixed t (e ∷ b) ≡ true
-ends_fixed-cons t e [] h (inl fixed) = fixed
-ends_fixed-cons t e [] h (inr some) = absurd (cc some)
-ends_fixed-cons t e (f ∷ b) h which = h
+ends_fixed-cons t e v2 h v4 = grind arith
 
 further-IsGap : (t : HandleTable) (m : ZoneMap) (e : Entry) (g : Gap) → IsGap t m g → (is_fixed t e.kind ≡ true) ⊎ (has_blocks g.before ≡ true) → IsGap t (e ∷ m) (further e g)
 further-IsGap t m e g i which = record { parts = ap (λ m. e ∷ m) i.parts; moves = i.moves; below = ends_fixed-cons t e g.before i.below which; above = i.above }

@@ -1,10 +1,10 @@
 -- Where a gap with room, or with a block, is found.
-use Rattle.std.proofs.Common.{◌≡◌, ℕ, ◌+◌, Bool, true, false, not, cond, List, [], ◌∷◌, ◌++◌, refl, ap, sym, ◌∙◌, inl, inr, append_assoc, arith, Some}
+use Rattle.std.proofs.Common.{◌≡◌, ℕ, Bool, true, false, not, cond, List, [], ◌∷◌, ◌++◌, refl, ap, sym, ◌∙◌, inl, inr, append_assoc, arith, Some}
 use Rattle.std.specs.Prelude.{◌||◌, ◌⊎◌, nat_le, map, find, is_some}
 use Rattle.std.specs.List.{list_any}
 use Rattle.std.proofs.lemmas.Bool.{and_parts, or_left, or_right, or_cases, leb-true, le-leb, not-true, true≢false}
 use Rattle.mac_base.specs.declared.block.Entry.{Entry}
-use Rattle.mac_base.specs.ZoneMap.{ZoneMap, is_free, is_named, has_free, free_size, free_bytes}
+use Rattle.mac_base.specs.ZoneMap.{ZoneMap, is_free, is_named, has_free, free_bytes}
 use Rattle.mac_base.specs.HandleTable.{HandleTable}
 use Rattle.mac_base.specs.Gap.{Gap, gaps, further, is_fixed, room, gap_after, ends_with, some_gap_has}
 use Rattle.zone_laws.proofs.GapParts.{all_move, starts_fixed, ends_fixed, IsGap, first_gap, later_gaps, gaps-first, first_gap-before, first_gap-IsGap}
@@ -18,11 +18,7 @@ is_some-find test (g ∷ gs) = elim (test g) as (λ c. is_some (cond c (Some g) 
 -- a test that a further block leaves
 pub list_any-further : (test : Gap → Bool) (e : Entry) (gs : List Gap) → ((g : Gap) → test g ≡ true → test (further e g) ≡ true) → list_any test gs ≡ true → list_any test (map (further e) gs) ≡ true
 list_any-further test e [] keeps h = h
-list_any-further test e (g ∷ gs) keeps h = by_place (or_cases (test g) (list_any test gs) h) (list_any-further test e gs keeps)
-  where
-    by_place : (test g ≡ true) ⊎ (list_any test gs ≡ true) → (list_any test gs ≡ true → list_any test (map (further e) gs) ≡ true) → (test (further e g) || list_any test (map (further e) gs)) ≡ true
-    by_place (inl here) rest = or_left _ _ (keeps g here)
-    by_place (inr there) rest = or_right _ _ (rest there)
+list_any-further test e (g ∷ gs) keeps h = grind (arith, list_any-further test e gs keeps, or_cases, or_left, or_right)
 
 -- the gaps of a map, by the lowest and those above it
 pub list_any-gaps : (test : Gap → Bool) (t : HandleTable) (m : ZoneMap) → list_any test (gaps t m) ≡ (test (first_gap t m) || list_any test (later_gaps t m))
@@ -67,16 +63,8 @@ first_gap-is t (e ∷ es) after moves fixed =
 
 later_among : (test : Gap → Bool) (t : HandleTable) (e : Entry) (before blocks after : ZoneMap) → ends_fixed t (e ∷ before) ≡ true → all_move t blocks ≡ true → starts_fixed t after ≡ true
     → test (record { before = e ∷ before; blocks = blocks; after = after }) ≡ true → list_any test (later_gaps t (e ∷ (before ++ (blocks ++ after)))) ≡ true
-later_among test t e [] blocks after below moves above holds =
-    ap (λ c. list_any test (map (further e) (cond c (first_gap t (blocks ++ after) ∷ later_gaps t (blocks ++ after)) (later_gaps t (blocks ++ after))))) below
-    ∙ or_left (test (further e (first_gap t (blocks ++ after)))) _ (ap (λ (g : Gap). test (further e g)) (first_gap-is t blocks after moves above) ∙ holds)
-later_among test t e (f ∷ fs) blocks after below moves above holds =
-    let m : ZoneMap = f ∷ (fs ++ (blocks ++ after)) in
-    let rest = later_among (λ g. test (further e g)) t f fs blocks after below moves above holds in
-    elim (is_fixed t e.kind) as (λ c. list_any test (map (further e) (cond c (first_gap t m ∷ later_gaps t m) (later_gaps t m))) ≡ true) [
-      | true ↦ or_right (test (further e (first_gap t m))) _ (list_any-map test (further e) (later_gaps t m) ∙ rest)
-      | false ↦ list_any-map test (further e) (later_gaps t m) ∙ rest
-    ]
+later_among test t e [] blocks after below moves above holds = grind (arith, first_gap, first_gap-is, later_gaps, list_any-map, or_left, or_right)
+later_among test t e (f ∷ fs) blocks after below moves above holds = grind (arith, later_among (λ g. test (further e g)) t f fs blocks after below moves above holds, first_gap, first_gap-is, later_gaps, list_any-map, or_left, or_right)
 
 among_parts : (test : Gap → Bool) (t : HandleTable) (before blocks after : ZoneMap) → ends_fixed t before ≡ true → all_move t blocks ≡ true → starts_fixed t after ≡ true
     → test (record { before = before; blocks = blocks; after = after }) ≡ true → list_any test (gaps t (before ++ (blocks ++ after))) ≡ true
@@ -118,20 +106,11 @@ gap_after-found t x a e b fixed named =
 -- a block with k free bytes gives room for them
 room-has_free : (k : ℕ) (b : ZoneMap) → list_any (has_free k) b ≡ true → nat_le k (free_bytes b) ≡ true
 room-has_free k [] h = absurd (cc h)
-room-has_free k (e ∷ es) h = by_place (or_cases (has_free k e) (list_any (has_free k) es) h) (room-has_free k es)
-  where
-    by_place : (has_free k e ≡ true) ⊎ (list_any (has_free k) es ≡ true) → (list_any (has_free k) es ≡ true → nat_le k (free_bytes es) ≡ true) → nat_le k (free_size e + free_bytes es) ≡ true
-    by_place (inl here) rest = let parts = and_parts (is_free e.kind) (nat_le k e.size) here in
-        ap (λ c. nat_le k (cond c e.size 0 + free_bytes es)) parts.0 ∙ (let fits = leb-true k e.size parts.1 in le-leb k (e.size + free_bytes es) (omega arith))
-    by_place (inr there) rest = let fits = leb-true k (free_bytes es) (rest there) in le-leb k (free_size e + free_bytes es) (omega arith)
+room-has_free k (e ∷ es) h = grind (arith, room-has_free k es, and_parts, le-leb, leb-true, or_cases)
 
 list_any-weaker : (p q : Gap → Bool) (gs : List Gap) → ((g : Gap) → p g ≡ true → q g ≡ true) → list_any p gs ≡ true → list_any q gs ≡ true
 list_any-weaker p q [] weaker h = h
-list_any-weaker p q (g ∷ gs) weaker h = by_place (or_cases (p g) (list_any p gs) h) (list_any-weaker p q gs weaker)
-  where
-    by_place : (p g ≡ true) ⊎ (list_any p gs ≡ true) → (list_any p gs ≡ true → list_any q gs ≡ true) → (q g || list_any q gs) ≡ true
-    by_place (inl here) rest = or_left _ _ (weaker g here)
-    by_place (inr there) rest = or_right _ _ (rest there)
+list_any-weaker p q (g ∷ gs) weaker h = grind (arith, list_any-weaker p q gs weaker, or_cases, or_left, or_right)
 
 free_moves : (t : HandleTable) (k : ℕ) (e : Entry) → has_free k e ≡ true → is_fixed t e.kind ≡ false
 free_moves t k e h = ap (is_fixed t) (free_is e.kind (and_parts (is_free e.kind) (nat_le k e.size) h).0)

@@ -7,10 +7,9 @@ use Rattle.mac_base.specs.declared.block.Entry.{Entry}
 use Rattle.mac_base.specs.declared.block.Kind.{Kind}
 use Rattle.mac_base.specs.declared.block.Kind.TheVariants.{Free}
 use Rattle.mac_base.specs.HeadKind.{Shape, smallest_block}
-use Rattle.mac_base.specs.ZoneMap.{ZoneMap, block, is_free, addresses_from, joined, joined_to}
+use Rattle.mac_base.specs.ZoneMap.{ZoneMap, block, is_free, joined, joined_to}
 use Rattle.mac_base.specs.HandleTable.{HandleTable}
 use Rattle.mac_base.specs.Suits.{free_apart, starts_free, is_block_size, has_owners_length}
-use Rattle.zone_laws.proofs.Maps.{addresses_from-skip}
 use Rattle.zone_laws.proofs.Arranging.{free_is}
 use Rattle.zone_laws.proofs.JoinedBlocks.{joined_to-apart}
 

@@ -1,7 +1,7 @@
 -- What joining neighbouring free blocks keeps, and which maps it makes one.
-use Rattle.std.proofs.Common.{◌≡◌, ℕ, ◌+◌, Bool, true, false, not, cond, [], ◌∷◌, ◌++◌, refl, ap, sym, ◌∙◌, add_assoc}
+use Rattle.std.proofs.Common.{arith, ◌≡◌, ℕ, ◌+◌, Bool, true, false, not, cond, [], ◌∷◌, ◌++◌, refl, ap, sym, ◌∙◌, add_assoc}
 use Rattle.std.specs.Prelude.{◌&&◌}
-use Rattle.std.proofs.lemmas.Bool.{and_from, and_parts, and_right, not-true}
+use Rattle.std.proofs.lemmas.Bool.{and_parts, not-true}
 use Rattle.mac_base.specs.declared.block.Entry.{Entry}
 use Rattle.mac_base.specs.declared.block.Kind.{Kind}
 use Rattle.mac_base.specs.declared.block.Kind.TheVariants.{Free}
@@ -44,41 +44,20 @@ total_size-joined (e ∷ es) = total_size-joined_to e (joined es) ∙ ap (λ n. 
 -- joining keeps the sizes of the blocks that pass a test which no free block passes
 pub sizes-joined : (test : Kind → Bool) (m : ZoneMap) → test Free ≡ false → sizes test (joined m) ≡ sizes test m
 sizes-joined test [] h = refl
-sizes-joined test (e ∷ es) h =
-    join_cases (λ j. sizes test j ≡ cond (test e.kind) (e.size ∷ []) [] ++ sizes test (joined es)) e (joined es) (λ f fs was free also_free.
-    ap (λ c. cond c ((e.size + f.size) ∷ []) [] ++ sizes test fs) h ∙ sym (ap (λ c. cond c (f.size ∷ []) [] ++ sizes test fs) (ap test also_free ∙ h)) ∙ ap (sizes test) (sym was)
-    ∙ sym (ap (λ c. cond c (e.size ∷ []) [] ++ sizes test (joined es)) (ap test free ∙ h))) refl
-    ∙ ap (λ ns. cond (test e.kind) (e.size ∷ []) [] ++ ns) (sizes-joined test es h)
+sizes-joined test (e ∷ es) h = grind (arith, sizes-joined test es h, join_cases)
 
 -- and their addresses
 pub addresses_from-joined : (at : ℕ) (test : Kind → Bool) (m : ZoneMap) → test Free ≡ false → addresses_from at test (joined m) ≡ addresses_from at test m
 addresses_from-joined at test [] h = refl
-addresses_from-joined at test (e ∷ es) h =
-    join_cases (λ j. addresses_from at test j ≡ cond (test e.kind) (at ∷ []) [] ++ addresses_from (at + e.size) test (joined es)) e (joined es) (λ f fs was free also_free.
-    ap (λ c. cond c (at ∷ []) [] ++ addresses_from (at + (e.size + f.size)) test fs) h ∙ ap (λ n. addresses_from n test fs) (sym (add_assoc at e.size f.size))
-    ∙ sym (ap (λ c. cond c ((at + e.size) ∷ []) [] ++ addresses_from (at + e.size + f.size) test fs) (ap test also_free ∙ h)) ∙ ap (addresses_from (at + e.size) test) (sym was)
-    ∙ sym (ap (λ c. cond c (at ∷ []) [] ++ addresses_from (at + e.size) test (joined es)) (ap test free ∙ h))) refl
-    ∙ ap (λ ns. cond (test e.kind) (at ∷ []) [] ++ ns) (addresses_from-joined (at + e.size) test es h)
+addresses_from-joined at test (e ∷ es) h = grind (arith, addresses_from-joined (at + e.size) test es h, join_cases)
 
 -- two free blocks, one after the other, join as one
 pub joined-two : (a b : ℕ) (m : ZoneMap) → joined (block Free a ∷ block Free b ∷ m) ≡ joined (block Free (a + b) ∷ m)
-joined-two a b m = by_rest (joined m)
-  where
-    by_rest : (j : ZoneMap) → joined_to (block Free a) (joined_to (block Free b) j) ≡ joined_to (block Free (a + b)) j
-    by_rest [] = refl
-    by_rest (f ∷ es) = elim (is_free f.kind) as (λ c. joined_to (block Free a) (cond c (block Free (b + f.size) ∷ es) (block Free b ∷ f ∷ es)) ≡ cond c (block Free (a + b + f.size) ∷ es) (block Free (a + b) ∷ f ∷ es)) [
-      | true ↦ ap (λ n. block Free n ∷ es) (sym (add_assoc a b f.size))
-      | false ↦ refl
-    ]
+joined-two a b m = grind arith
 
 -- a block joined to others among which free blocks are apart leaves them apart
 pub free_apart-joined_to : (e : Entry) (m : ZoneMap) → free_apart m ≡ true → free_apart (joined_to e m) ≡ true
-free_apart-joined_to e [] h = and_from (not (is_free e.kind && false)) true (ap not (and_right (is_free e.kind) false refl)) refl
-free_apart-joined_to e (f ∷ es) h =
-    elim (is_free e.kind && is_free f.kind) as (λ b. (is_free e.kind && is_free f.kind) ≡ b → free_apart (cond b (block Free (e.size + f.size) ∷ es) (e ∷ f ∷ es)) ≡ true) [
-      | true ↦ λ free. ap (λ c. not (c && starts_free es) && free_apart es) (sym (and_parts (is_free e.kind) (is_free f.kind) free).1) ∙ h
-      | false ↦ λ apart. and_from (not (is_free e.kind && is_free f.kind)) (free_apart (f ∷ es)) (ap not apart) h
-    ] refl
+free_apart-joined_to e v1 h = grind arith
 
 -- free blocks of a joined map are apart
 pub free_apart-joined : (m : ZoneMap) → free_apart (joined m) ≡ true

@@ -1,12 +1,11 @@
 -- Where the blocks of pointers and of locked handles are.
-use Rattle.std.proofs.Common.{◌≡◌, ℕ, ◌+◌, Bool, true, false, cond, [], ◌∷◌, ◌++◌, map, Some, None, Option, refl, ap, sym, ◌∙◌, inl, inr}
-use Rattle.std.specs.Prelude.{◌⊎◌, slice_index}
-use Rattle.std.proofs.lemmas.Bool.{true≢false, or_cases}
+use Rattle.std.proofs.Common.{arith, ◌≡◌, ℕ, ◌+◌, Bool, true, false, cond, [], ◌∷◌, ◌++◌, map, Option, refl, ap, sym, ◌∙◌}
+use Rattle.std.specs.Prelude.{slice_index}
 use Rattle.mac_base.specs.declared.block.Kind.{Kind}
-use Rattle.mac_base.specs.declared.block.Kind.TheVariants.{Free, Master, Ptr, Rel}
+use Rattle.mac_base.specs.declared.block.Kind.TheVariants.{Rel}
 use Rattle.mac_base.specs.HeadKind.{Shape, head_size}
 use Rattle.mac_base.specs.ZoneMap.{ZoneMap, Rearranged, is_named, address_after, addresses, addresses_from, contents_of}
-use Rattle.mac_base.specs.HandleTable.{HandleTable, Live, EmptyHandle, FullHandle, Pointer, live_flags, live_handle, is_handle, is_lent, is_locked, is_pointer}
+use Rattle.mac_base.specs.HandleTable.{HandleTable, Live, live_flags, live_handle, is_handle, is_lent, is_locked, is_pointer}
 use Rattle.mac_base.specs.Suits.{Suits, is_handle_block, is_pointer_block}
 use Rattle.mac_base.specs.Gap.{is_fixed}
 use Rattle.mac_base.specs.Heap.{Heap}
@@ -24,16 +23,10 @@ named_only x one other either at (e ∷ es) none =
     ap (λ b. cond b (at ∷ []) [] ++ addresses_from (at + e.size) (is_named x) es) (either e.kind parts.0) ∙ ap (λ found. cond (other e.kind) (at ∷ []) [] ++ found) (named_only x one other either (at + e.size) es parts.1)
 
 no_handle : (x : ℕ) (k : Kind) → is_handle_block x k ≡ false → is_named x k ≡ is_pointer_block x k
-no_handle x Free h = refl
-no_handle x Master h = refl
-no_handle x (Ptr p) h = refl
-no_handle x (Rel g) h = h
+no_handle x v1 h = grind arith
 
 no_pointer : (x : ℕ) (k : Kind) → is_pointer_block x k ≡ false → is_named x k ≡ is_handle_block x k
-no_pointer x Free h = refl
-no_pointer x Master h = refl
-no_pointer x (Ptr p) h = h
-no_pointer x (Rel g) h = refl
+no_pointer x v1 h = grind arith
 
 -- the contents of a pointer's block begin at its number
 pub contents-pointer : (s : Shape) (t : HandleTable) (m : ZoneMap) (p : ℕ) → Suits s t m → is_pointer t p ≡ true → contents_of s p m ≡ p
@@ -47,10 +40,7 @@ addresses-handle s t m h suits live = named_only h (is_pointer_block h) (is_hand
 
 -- a locked handle has a block
 pub locked_full : (o : Option Live) → (live_flags o).lock ≡ true → live_handle o ≡ true
-locked_full None h = absurd (cc h)
-locked_full (Some EmptyHandle) h = absurd (cc h)
-locked_full (Some (FullHandle flags bytes)) h = refl
-locked_full (Some (Pointer bytes)) h = absurd (cc h)
+locked_full v0 h = grind arith
 
 -- a rearrangement leaves the blocks of locked handles
 pub rearranged-stays : (s : Shape) (t : HandleTable) (old new : ZoneMap) (h : ℕ) → Rearranged s (is_fixed t) old new → is_locked t h ≡ true → addresses s (is_handle_block h) new ≡ addresses s (is_handle_block h) old
@@ -58,11 +48,4 @@ rearranged-stays s t old new h r locked = ap (λ test. addresses s test new) (ha
 
 -- an unlocked handle is not lent
 pub unlocked-here : (heap : Heap) (h : ℕ) → LoansAreFixed heap → MayEmpty heap.table h → is_lent heap.table h ≡ false
-unlocked-here heap h fixed may = elim (is_lent heap.table h) as (λ b. is_lent heap.table h ≡ b → b ≡ false) [
-  | true ↦ λ lent. absurd (by_fix (or_cases (is_pointer heap.table h) (is_locked heap.table h) (fixed h lent)))
-  | false ↦ λ _. refl
-] refl
-  where
-    by_fix : (is_pointer heap.table h ≡ true) ⊎ (is_locked heap.table h ≡ true) → ⊥
-    by_fix (inl pointer) = true≢false (sym pointer ∙ handle_no_pointer heap.table h may.handle)
-    by_fix (inr locked) = true≢false (sym locked ∙ may.unlocked)
+unlocked-here heap h fixed may = grind arith

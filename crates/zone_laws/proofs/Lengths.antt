@@ -1,26 +1,21 @@
 -- A block is no longer than its zone.
-use Rattle.std.proofs.Common.{◌≡◌, ℕ, ◌+◌, ◌≤◌, Bool, true, false, cond, refl, [], ◌∷◌, ◌++◌, length, nat_le, IsTrue, subst, arith}
+use Rattle.std.proofs.Common.{◌≡◌, ℕ, ◌+◌, ◌≤◌, Bool, true, false, cond, refl, [], ◌∷◌, ◌++◌, length, IsTrue, subst, arith}
 use Rattle.std.specs.Prelude.{◌==◌}
 use Rattle.std.specs.List.{list_all}
-use Rattle.std.proofs.lemmas.Bool.Decides.{nat_tests}
 use Rattle.std.proofs.lemmas.Bool.{and_parts, eqb-true}
 use Rattle.mac_base.specs.declared.block.Kind.{Kind}
 use Rattle.mac_base.specs.declared.block.Kind.TheVariants.{Free, Master, Ptr, Rel}
-use Rattle.mac_base.specs.HeadKind.{Shape, need}
+use Rattle.mac_base.specs.HeadKind.{Shape}
 use Rattle.mac_base.specs.ZoneMap.{ZoneMap, is_named, sizes, total_size}
 use Rattle.mac_base.specs.HandleTable.{HandleTable, bytes_of, has_block}
 use Rattle.mac_base.specs.Heap.{Heap}
 use Rattle.mac_base.specs.Sound.{Sound}
 use Rattle.mac_base.specs.Suits.{has_length, has_owners_length}
 use Rattle.zone_laws.proofs.SuitsNamed.{named_once}
-use Rattle.zone_laws.proofs.FreshNumbers.{need-above}
 
 -- bytes that have a block are no more than it
 fitting : (s : Shape) (size n : ℕ) → has_length s size n ≡ true → n ≤ size
-fitting s size n h = let enough = le (need s.heads n) size (and_parts (nat_le (need s.heads n) size) _ h).0 in omega (arith, enough, need-above s.heads n)
-  where
-    le : (a b : ℕ) → nat_le a b ≡ true → a ≤ b
-    le a b h = grind (arith, nat_tests)
+fitting s size n h = grind arith
 
 -- nor than all blocks together
 within_blocks : (s : Shape) (t : HandleTable) (x : ℕ) (m : ZoneMap) → IsTrue (list_all (has_owners_length s t) m) → 1 ≤ length (sizes (is_named x) m) → length (bytes_of t x) ≤ total_size m
@@ -45,7 +40,4 @@ within_blocks s t x (e ∷ es) long some =
 
 -- the bytes of a block are fewer than the zone may have
 pub bytes-within : (s : Shape) (heap : Heap) (x : ℕ) → Sound s heap → has_block heap.table x ≡ true → length (bytes_of heap.table x) ≤ s.limit
-bytes-within s heap x sound block =
-    let one = named_once s heap.table heap.map x sound.suits block in
-    let few = within_blocks s heap.table x heap.map sound.suits.lengths (omega (arith, one)) in
-    omega (arith, few, sound.within)
+bytes-within s heap x sound block = grind (arith, named_once, within_blocks)

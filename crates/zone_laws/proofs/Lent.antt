@@ -1,15 +1,14 @@
 -- What is lent has a block, which stays where it is while others change.
-use Rattle.std.proofs.Common.{◌≡◌, ℕ, ◌+◌, Bool, true, false, cond, eqb, List, [], ◌∷◌, ◌++◌, length, map, Some, None, Option, refl, ap, sym, ◌∙◌, arith}
+use Rattle.std.proofs.Common.{◌≡◌, ℕ, ◌+◌, Bool, true, false, cond, eqb, List, [], ◌∷◌, ◌++◌, length, map, refl, ap, sym, ◌∙◌, arith}
 use Rattle.std.specs.Prelude.{◌||◌, ◌&&◌, ◌==◌, filter, slice_index}
 use Rattle.std.specs.List.{list_any}
-use Rattle.std.proofs.lemmas.Bool.Decides.{nat_tests}
 use Rattle.std.proofs.lemmas.Map.Views.{any-filter_same}
 use Rattle.std.proofs.lemmas.Bool.{eqb-true}
 use Rattle.mac_base.specs.declared.block.Kind.{Kind}
 use Rattle.mac_base.specs.declared.block.Kind.TheVariants.{Free, Master, Ptr, Rel}
 use Rattle.mac_base.specs.HeadKind.{Shape, head_size}
 use Rattle.mac_base.specs.ZoneMap.{ZoneMap, is_named, sizes, addresses, contents_of}
-use Rattle.mac_base.specs.HandleTable.{HandleTable, Live, EmptyHandle, FullHandle, Pointer, live_at, live_bytes, live_flags, live_full, live_pointer, bytes_of, has_block, is_full, is_lent, is_locked, is_pointer}
+use Rattle.mac_base.specs.HandleTable.{HandleTable, live_bytes, live_flags, live_pointer, bytes_of, has_block, is_full, is_lent, is_locked, is_pointer}
 use Rattle.mac_base.specs.Heap.{Heap}
 use Rattle.mac_base.specs.Loans.{LoansAreFixed, owners, owner_of}
 use Rattle.mac_base.specs.Suits.{Suits}
@@ -18,13 +17,7 @@ use Rattle.zone_laws.proofs.Tables.{AgreeBut}
 
 -- a pointer or a locked handle has a block
 pub fixed-block : (t : HandleTable) (x : ℕ) → (is_pointer t x || is_locked t x) ≡ true → has_block t x ≡ true
-fixed-block t x = by_case (live_at t x)
-  where
-    by_case : (o : Option Live) → (live_pointer o || (live_flags o).lock) ≡ true → (live_full o || live_pointer o) ≡ true
-    by_case None h = absurd (cc h)
-    by_case (Some EmptyHandle) h = absurd (cc h)
-    by_case (Some (FullHandle flags bytes)) h = refl
-    by_case (Some (Pointer bytes)) h = refl
+fixed-block t x = grind arith
 
 -- so what is lent has one
 pub lent-block : (heap : Heap) (x : ℕ) → LoansAreFixed heap → is_lent heap.table x ≡ true → has_block heap.table x ≡ true
@@ -32,10 +25,7 @@ lent-block heap x fixed lent = fixed-block heap.table x (fixed x lent)
 
 -- and what has none isn't lent
 pub no_block-here : (heap : Heap) (x : ℕ) → LoansAreFixed heap → is_full heap.table x ≡ false → is_pointer heap.table x ≡ false → is_lent heap.table x ≡ false
-no_block-here heap x fixed not_full no_pointer = elim (is_lent heap.table x) as (λ b. is_lent heap.table x ≡ b → b ≡ false) [
-  | true ↦ λ lent. absurd (cc (ap (λ b. b || is_pointer heap.table x) not_full ∙ no_pointer, lent-block heap x fixed lent))
-  | false ↦ λ _. refl
-] refl
+no_block-here heap x fixed not_full no_pointer = grind arith
 
 -- what owns no block of a map has none there
 not_owner : (x : ℕ) (m : ZoneMap) → list_any (λ y. y == x) (owners m) ≡ false → sizes (is_named x) m ≡ []
@@ -54,10 +44,7 @@ not_owner x (e ∷ es) none = by_kind e.kind (not_owner x es) none
 
 -- what has a block is an owner of one
 pub block-owner : (s : Shape) (t : HandleTable) (m : ZoneMap) (x : ℕ) → Suits s t m → has_block t x ≡ true → list_any (λ y. y == x) (owners m) ≡ true
-block-owner s t m x suits block = elim (list_any (λ y. y == x) (owners m)) as (λ b. list_any (λ y. y == x) (owners m) ≡ b → b ≡ true) [
-  | true ↦ λ _. refl
-  | false ↦ λ none. (let one = sym (named_once s t m x suits block) ∙ ap length (not_owner x m none) in absurd (omega arith))
-] refl
+block-owner s t m x suits block = grind (arith, named_once, not_owner)
 
 -- which of some numbers are lent, once those that pass a test are
 pub lent-filtered : (p : ℕ → Bool) (x : ℕ) (xs : List ℕ) → list_any (λ y. y == x) (filter p xs) ≡ (p x && list_any (λ y. y == x) xs)
@@ -69,10 +56,7 @@ contents_of-same s x old new same = ap (λ found. slice_index (map (λ a. a + he
 
 -- what one number names, another does not
 pub other_named : (x y : ℕ) → eqb y x ≡ false → (kind : Kind) → is_named y kind ≡ true → is_named x kind ≡ false
-other_named x y apart Free h = absurd (cc h)
-other_named x y apart Master h = absurd (cc h)
-other_named x y apart (Ptr p) h = grind (arith, nat_tests)
-other_named x y apart (Rel g) h = grind (arith, nat_tests)
+other_named x y apart v3 h = grind arith
 
 -- A change of a heap that keeps what is lent: the same numbers are, and each has its block where it was and as long as
 -- it was. Those that were pointers or locked handles still are.
@@ -90,10 +74,7 @@ fixed-kept s old new keeps fixed x lent =
 
 -- what is lent is none that isn't
 pub lent-apart : (t : HandleTable) (x y : ℕ) → is_lent t x ≡ false → is_lent t y ≡ true → eqb y x ≡ false
-lent-apart t x y here lent = elim (eqb y x) as (λ b. eqb y x ≡ b → b ≡ false) [
-  | true ↦ λ same. absurd (cc (ap (is_lent t) (eqb-true y x same), here, lent))
-  | false ↦ λ _. refl
-] refl
+lent-apart t x y here lent = grind arith
 
 -- a change of what isn't lent, after which each other number has its block where it was
 pub keeps-others : (s : Shape) (old new : Heap) (x : ℕ) → is_lent old.table x ≡ false → AgreeBut x old.table new.table → new.table.lent ≡ old.table.lent

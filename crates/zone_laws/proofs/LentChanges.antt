@@ -1,5 +1,5 @@
 -- The changes of a heap keep what is lent.
-use Rattle.std.proofs.Common.{◌≡◌, ℕ, Bool, true, false, not, eqb, List, [], ◌∷◌, length, Some, refl, ap, sym, ◌∙◌, subst}
+use Rattle.std.proofs.Common.{arith, ◌≡◌, ℕ, Bool, true, false, not, eqb, List, [], ◌∷◌, length, Some, refl, ap, sym, ◌∙◌, subst}
 use Rattle.std.specs.Prelude.{◌||◌, ◌&&◌, ◌==◌, filter}
 use Rattle.std.specs.List.{list_any}
 use Rattle.std.proofs.lemmas.Bool.{not-true, and_parts, not_from_false, and_from, eqb-true}
@@ -96,14 +96,7 @@ is_lent-lent_out x heap y = lent-filtered (λ z. z == x || is_lent heap.table z)
 
 -- so what was lent still is
 pub lent_out-lent : (s : Shape) (heap : Heap) (x y : ℕ) → Sound s heap → LoansAreFixed heap → is_lent heap.table y ≡ true → is_lent (lent_out x heap).table y ≡ true
-lent_out-lent s heap x y sound fixed lent =
-    let owner = block-owner s heap.table heap.map y sound.suits (lent-block heap y fixed lent) in
-    is_lent-lent_out x heap y ∙ both (y == x) (is_lent heap.table y) (list_any (λ z. z == y) (owners heap.map)) lent owner
-  where
-    both : (a b c : Bool) → b ≡ true → c ≡ true → ((a || b) && c) ≡ true
-    both true b c p q = q
-    both false true c p q = q
-    both false false c p q = absurd (cc p)
+lent_out-lent s heap x y sound fixed lent = grind (arith, block-owner, is_lent-lent_out, lent-block)
 
 -- and each of these is fixed, as x is
 pub lent_out-fixed : (heap : Heap) (x : ℕ) → LoansAreFixed heap → (is_pointer heap.table x || is_locked heap.table x) ≡ true → LoansAreFixed (lent_out x heap)

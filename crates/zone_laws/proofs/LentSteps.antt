@@ -1,5 +1,5 @@
 -- Calls of the Memory Manager lend nothing and take nothing back, and what is lent stays as it is.
-use Rattle.std.proofs.Common.{◌≡◌, ℕ, ◌+◌, Bool, true, false, not, eqb, length, take, drop, List, [], ◌∷◌, ◌++◌, Option, Some, None, Ok, MatchOption, Contains, refl, ap, sym, ◌∙◌, subst, inl, inr}
+use Rattle.std.proofs.Common.{arith, ◌≡◌, ℕ, ◌+◌, Bool, true, false, not, eqb, length, take, drop, List, [], ◌∷◌, ◌++◌, Option, Some, None, Ok, MatchOption, Contains, refl, ap, sym, ◌∙◌, subst, inl, inr}
 use Rattle.std.specs.Prelude.{◌||◌, ◌&&◌, ◌==◌, ⊤}
 use Rattle.std.specs.List.{list_any}
 use Rattle.std.proofs.lemmas.Bool.{or_cases, true≢false}
@@ -11,7 +11,7 @@ use Rattle.mac_base.specs.declared.releasing.ReleasingCall.TheVariants.{Disposes
 use Rattle.mac_base.specs.declared.request.Request.{Request}
 use Rattle.mac_base.specs.declared.request.Request.TheVariants.{NewBlock, NewEmpty, NewPointer}
 use Rattle.mac_base.specs.FlagState.{flags_from, state_locks}
-use Rattle.mac_base.specs.HandleTable.{HandleTable, Live, EmptyHandle, FullHandle, Pointer, bytes_of, flags_of, is_lent, is_locked, is_pointer, live_at, live_bytes, live_flags, live_full, live_pointer, no_flags, refilled, resized, with_bytes, with_flags, with_live, zeros}
+use Rattle.mac_base.specs.HandleTable.{HandleTable, Live, EmptyHandle, FullHandle, Pointer, bytes_of, flags_of, is_lent, is_locked, is_pointer, live_at, live_bytes, live_flags, live_pointer, no_flags, refilled, resized, with_bytes, with_flags, with_live, zeros}
 use Rattle.mac_base.specs.HeadKind.{Shape}
 use Rattle.mac_base.specs.Heap.{Heap, every_slot_live, table_granted, with_all_emptied}
 use Rattle.mac_base.specs.Loans.{LoansAreFixed}
@@ -35,7 +35,7 @@ use Rattle.mac_base.specs.MemoryStep.{MemoryStep, QuietStep, StepAsking, StepUnl
 use Rattle.mac_base.specs.Outcomes.{Outcome, given_results}
 use Rattle.mac_base.specs.RequestRun.{RequestRun}
 use Rattle.mac_base.specs.Tests.{Test, IsHandle, IsPointer, IsBlock, NotEmpty, NotLent, NotLocked, IsSize, IsState, IsWithin, KeepsLent as KeepsState, first_refusal, protected_by, refusal, unless_passed}
-use Rattle.zone_laws.proofs.Lent.{KeepsLent, fixed-block, lent-apart}
+use Rattle.zone_laws.proofs.Lent.{KeepsLent, lent-apart}
 use Rattle.zone_laws.proofs.Tables.{by_number, handle_no_pointer, live_at-with_live_same, with_live_agrees, without_agrees}
 use Rattle.zone_laws.proofs.Emptied.{candidate-is}
 use Rattle.zone_laws.proofs.KeepsLoans.{contents-pointer, unlocked-here}
@@ -104,10 +104,7 @@ run-kept s protected r allowed old asks given new run = run-ran s protected ⊤ 
 
 -- what isn't live isn't lent
 not_live-here : (t : HandleTable) (x : ℕ) → live_at t x ≡ None → AreFixed t → is_lent t x ≡ false
-not_live-here t x none fixed = elim (is_lent t x) as (λ b. is_lent t x ≡ b → b ≡ false) [
-  | true ↦ λ lent. absurd (true≢false (sym (fixed-block t x (fixed x lent)) ∙ ap (λ o. live_full o || live_pointer o) none))
-  | false ↦ λ _. refl
-] refl
+not_live-here t x none fixed = grind arith
 
 -- so a number that a request gives wasn't
 pub given-here : (old before : HandleTable) (x : ℕ) → LoansKept old before → live_at before x ≡ None → AreFixed old → is_lent old x ≡ false

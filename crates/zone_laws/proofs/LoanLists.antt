@@ -1,5 +1,5 @@
 -- The loans by number.
-use Rattle.std.proofs.Common.{◌≡◌, ℕ, Bool, true, false, not, cond, eqb, List, [], ◌∷◌, ◌++◌, refl, ap, sym, ◌∙◌}
+use Rattle.std.proofs.Common.{arith, ◌≡◌, ℕ, Bool, true, false, cond, eqb, List, [], ◌∷◌, ◌++◌, refl, ap, sym, ◌∙◌}
 use Rattle.std.specs.Prelude.{◌||◌, ◌==◌}
 use Rattle.std.specs.List.{list_any}
 use Rattle.std.proofs.lemmas.Bool.{eqb-true}
@@ -47,11 +47,7 @@ same_tests l x y h = ap (λ z. z == y) (sym (eqb-true l x h))
 
 pub loaned-with : (x y : ℕ) (bytes : List ℕ) (loans : Loans) → is_loaned y (with_held x bytes loans) ≡ is_loaned y loans
 loaned-with x y bytes [] = refl
-loaned-with x y bytes (loan ∷ loans) = ap (λ b. (cond (loan.0 == x) (x, bytes) loan).0 == y || b) (loaned-with x y bytes loans) ∙ ap (λ b. b || is_loaned y loans) (by_test (loan.0 == x) refl)
-  where
-    by_test : (b : Bool) → (loan.0 == x) ≡ b → let l : ℕ × List ℕ = cond b (x, bytes) loan in (l.0 == y) ≡ (loan.0 == y)
-    by_test true is = same_tests loan.0 x y is
-    by_test false is = refl
+loaned-with x y bytes (loan ∷ loans) = grind (arith, loaned-with x y bytes loans, same_tests)
 
 pub held-with_same : (x : ℕ) (bytes : List ℕ) (loans : Loans) → is_loaned x loans ≡ true → held_bytes x (with_held x bytes loans) ≡ bytes
 held-with_same x bytes [] h = absurd (cc h)
@@ -64,13 +60,7 @@ held-with_same x bytes (loan ∷ loans) h = by_test (loan.0 == x) refl (held-wit
 
 pub held-with_other : (x y : ℕ) (bytes : List ℕ) (loans : Loans) → eqb y x ≡ false → held_bytes y (with_held x bytes loans) ≡ held_bytes y loans
 held-with_other x y bytes [] apart = refl
-held-with_other x y bytes (loan ∷ loans) apart = by_test (loan.0 == x) refl (held-with_other x y bytes loans apart)
-  where
-    by_test : (b : Bool) → (loan.0 == x) ≡ b → held_bytes y (with_held x bytes loans) ≡ held_bytes y loans → let l : ℕ × List ℕ = cond b (x, bytes) loan in cond (l.0 == y) l.1 (held_bytes y (with_held x bytes loans)) ≡ cond (loan.0 == y) loan.1 (held_bytes y loans)
-    by_test true is rest =
-        let other : (x == y) ≡ false = eqb_swap x y ∙ apart in
-        ap (λ b. cond b bytes (held_bytes y (with_held x bytes loans))) other ∙ rest ∙ sym (ap (λ b. cond b loan.1 (held_bytes y loans)) (sym (same_tests loan.0 x y is) ∙ other))
-    by_test false is rest = ap (λ v. cond (loan.0 == y) loan.1 v) rest
+held-with_other x y bytes (loan ∷ loans) apart = grind (arith, held-with_other x y bytes loans apart, eqb_swap, same_tests)
 
 -- ---- a loan taken out
 
@@ -79,24 +69,12 @@ other_test l x y apart is = sym (same_tests l x y is) ∙ eqb_swap x y ∙ apart
 
 pub held-without : (x y : ℕ) (loans : Loans) → eqb y x ≡ false → held_bytes y (without_loan x loans) ≡ held_bytes y loans
 held-without x y [] apart = refl
-held-without x y (loan ∷ loans) apart = by_test (loan.0 == x) refl (held-without x y loans apart)
-  where
-    by_test : (b : Bool) → (loan.0 == x) ≡ b → held_bytes y (without_loan x loans) ≡ held_bytes y loans → held_bytes y (cond (not b) (loan ∷ without_loan x loans) (without_loan x loans)) ≡ cond (loan.0 == y) loan.1 (held_bytes y loans)
-    by_test true is rest = rest ∙ sym (ap (λ b. cond b loan.1 (held_bytes y loans)) (other_test loan.0 x y apart is))
-    by_test false is rest = ap (λ v. cond (loan.0 == y) loan.1 v) rest
+held-without x y (loan ∷ loans) apart = grind (arith, held-without x y loans apart, other_test)
 
 pub loaned-without_other : (x y : ℕ) (loans : Loans) → eqb y x ≡ false → is_loaned y (without_loan x loans) ≡ is_loaned y loans
 loaned-without_other x y [] apart = refl
-loaned-without_other x y (loan ∷ loans) apart = by_test (loan.0 == x) refl (loaned-without_other x y loans apart)
-  where
-    by_test : (b : Bool) → (loan.0 == x) ≡ b → is_loaned y (without_loan x loans) ≡ is_loaned y loans → is_loaned y (cond (not b) (loan ∷ without_loan x loans) (without_loan x loans)) ≡ ((loan.0 == y) || is_loaned y loans)
-    by_test true is rest = rest ∙ sym (ap (λ b. b || is_loaned y loans) (other_test loan.0 x y apart is))
-    by_test false is rest = ap (λ v. (loan.0 == y) || v) rest
+loaned-without_other x y (loan ∷ loans) apart = grind (arith, loaned-without_other x y loans apart, other_test)
 
 pub loaned-without_same : (x : ℕ) (loans : Loans) → is_loaned x (without_loan x loans) ≡ false
 loaned-without_same x [] = refl
-loaned-without_same x (loan ∷ loans) = by_test (loan.0 == x) refl (loaned-without_same x loans)
-  where
-    by_test : (b : Bool) → (loan.0 == x) ≡ b → is_loaned x (without_loan x loans) ≡ false → is_loaned x (cond (not b) (loan ∷ without_loan x loans) (without_loan x loans)) ≡ false
-    by_test true is rest = rest
-    by_test false is rest = ap (λ b. b || is_loaned x (without_loan x loans)) is ∙ rest
+loaned-without_same x (loan ∷ loans) = grind (arith, loaned-without_same x loans)

@@ -1,5 +1,5 @@
 -- Every handle and pointer shows the bytes last put there, lent or not.
-use Rattle.std.proofs.Common.{◌≡◌, ℕ, ◌+◌, ◌≤◌, Bool, true, false, not, cond, eqb, length, take, drop, List, [], ◌∷◌, ◌++◌, Option, Some, None, Ok, Err, refl, ap, sym, subst, ◌∙◌}
+use Rattle.std.proofs.Common.{arith, ◌≡◌, ℕ, ◌+◌, ◌≤◌, Bool, true, false, not, cond, eqb, length, take, drop, List, [], ◌∷◌, ◌++◌, Option, Some, None, Ok, Err, refl, ap, sym, subst, ◌∙◌}
 use Rattle.std.specs.Prelude.{◌||◌, ◌&&◌, ◌==◌, nat_lt}
 use Rattle.std.specs.List.{list_any}
 use Rattle.std.proofs.lemmas.Bool.{true≢false, and_parts}
@@ -431,9 +431,7 @@ module _ (s : Shape) (old new : Moment) (last : LastPut) (sound : Sound s old.he
 
 -- a call on a lent block moves nothing
 pub loan-map : (s : Shape) (old new : Moment) (call : LoanCall) (outcome : Outcome) (o : Option OsErr) → LoanStepUnless o old.loans old.heap call outcome new.loans new.heap → new.heap.map ≡ old.heap.map
-loan-map s old new call outcome (Some code) step = ap (λ (h : Heap). h.map) step.2
-loan-map s old new (loan_call.Lend x) outcome None step = ap (λ (h : Heap). h.map) step.2
-loan-map s old new call outcome None step = ap (λ (h : Heap). h.map) step.2
+loan-map s old new v3 outcome v5 step = grind arith
 
 -- ---- flags
 

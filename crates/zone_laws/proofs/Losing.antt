@@ -1,11 +1,10 @@
 -- What a number is, it stays until something ends it: a block is lost only where it may be.
-use Rattle.std.proofs.Common.{◌≡◌, ℕ, Bool, true, false, not, cond, length, take, drop, List, [], ◌∷◌, ◌++◌, Option, Some, None, Ok, Contains, refl, ap, sym, subst, ◌∙◌, inl, inr, append-nil, append_assoc, arith, ◌-◌}
+use Rattle.std.proofs.Common.{◌≡◌, ℕ, Bool, true, false, cond, length, take, drop, List, [], ◌∷◌, ◌++◌, Option, Some, None, Ok, Contains, refl, ap, sym, subst, ◌∙◌, inl, inr, append-nil, append_assoc, arith, ◌-◌}
 use Rattle.std.specs.List.{cons_option}
-use Rattle.std.specs.Prelude.{flat_map, ◌||◌, ◌&&◌, ◌⊎◌, filter_map}
-use Rattle.std.proofs.lemmas.Bool.{or_left, true≢false, not-true, and_parts}
+use Rattle.std.specs.Prelude.{flat_map, ◌||◌, ◌⊎◌, filter_map}
+use Rattle.std.proofs.lemmas.Bool.{true≢false, not-true, and_parts}
 use Rattle.std.proofs.lemmas.Grind.{flat_map-append}
 use Rattle.std.proofs.lemmas.List.Elements.{All-contains, Contains-append_left, Contains-append_right, filter_map-append, filter_passes}
-use Rattle.mac_base.specs.declared.block.Entry.{Entry}
 use Rattle.mac_base.specs.declared.block.Flags.{Flags}
 use Rattle.mac_base.specs.declared.error.OsErr.{OsErr}
 use Rattle.mac_base.specs.declared.error.OsErr.TheVariants.{MemLockedErr, MemPurErr}
@@ -14,13 +13,13 @@ use Rattle.mac_base.specs.declared.releasing.ReleasingCall.TheVariants.{Disposes
 use Rattle.mac_base.specs.declared.request.Request.{Request}
 use Rattle.mac_base.specs.declared.request.Request.TheVariants.{NewBlock, NewEmpty, NewPointer, NewMaster, Reserve, Resize, Replace}
 use Rattle.mac_base.specs.FlagState.{flags_from}
-use Rattle.mac_base.specs.HandleTable.{HandleTable, Live, EmptyHandle, FullHandle, Pointer, bytes_of, flags_of, has_block, is_full, is_handle, is_locked, is_pointer, is_purgeable, live_at, live_flags, live_full, live_handle, live_pointer, no_flags, refilled, resized, with_bytes, with_flags, with_live, zeros}
+use Rattle.mac_base.specs.HandleTable.{HandleTable, Live, EmptyHandle, FullHandle, Pointer, bytes_of, flags_of, has_block, is_handle, is_purgeable, live_at, live_full, live_handle, live_pointer, no_flags, refilled, resized, with_bytes, with_flags, with_live, zeros}
 use Rattle.mac_base.specs.HeadKind.{Shape}
 use Rattle.mac_base.specs.Heap.{Heap, grown, table_granted, with_all_emptied, with_emptied}
 use Rattle.mac_base.specs.Releasing.{heap_released, operand_of}
 use Rattle.mac_base.specs.Request.{blocks_to_purge, candidates_in, is_among}
 use Rattle.mac_base.specs.Trial.{Fails, MayPrepare, NumberGiven, Preparation, prepared_by}
-use Rattle.mac_base.specs.ZoneMap.{ZoneMap, handle_of}
+use Rattle.mac_base.specs.ZoneMap.{ZoneMap}
 use Rattle.mac_base.specs.ZoneState.{written}
 use Rattle.mac_base.specs.declared.memory_call.MemoryCall.{MemoryCall}
 use Rattle.mac_base.specs.declared.memory_call.MemoryCall.TheVariants as memory_call
@@ -62,17 +61,11 @@ test_of k o = k.test (live_handle o) (live_full o) (live_pointer o)
 
 -- what may be purged is purgeable, and not protected
 candidate-purgeable : (t : HandleTable) (protected : List ℕ) (m : ZoneMap) (x : ℕ) → Contains (candidates_in t protected m) x → (is_purgeable t x ≡ true) × (is_among protected x ≡ false)
-candidate-purgeable t protected m x c =
-    let passes = All-contains (λ g. (is_purgeable t g && not (is_among protected g)) ≡ true) (candidates_in t protected m) x
-    (filter_passes (λ g. is_purgeable t g && not (is_among protected g)) (filter_map (λ (e : Entry). handle_of e.kind) m)) c in
-    let both = and_parts (is_purgeable t x) (not (is_among protected x)) passes in
-    (both.0, not-true (is_among protected x) both.1)
+candidate-purgeable t protected m x c = grind (arith, All-contains, and_parts, filter_passes, not-true)
 
 -- what is purgeable was so as long as it had a block
 still-purgeable : (protected : List ℕ) (old new : HandleTable) (x : ℕ) → Fewer protected old new → is_purgeable new x ≡ true → is_purgeable old x ≡ true
-still-purgeable protected old new x fewer purgeable =
-    let block = or_left (is_full new x) (is_pointer new x) (and_parts (is_full new x) ((flags_of new x).purge && not (is_locked new x)) purgeable).0 in
-    ap (λ o. live_full o && ((live_flags o).purge && not (live_flags o).lock)) (sym (fewer.same x block)) ∙ purgeable
+still-purgeable protected old new x fewer purgeable = grind arith
 
 -- what is passed as a handle is one
 handle-first : (s : Shape) (heap : Heap) (h : ℕ) (rest : List Test) → first_refusal s heap (IsHandle h ∷ rest) ≡ None → is_handle heap.table h ≡ true
@@ -350,9 +343,7 @@ step-keeps k s old call asks outcome new x step holds ends = elim (unless-keep k
 -- ---- blocks
 
 pub itself-released : (call : ReleasingCall) (results : Results) → released_itself (as_call call) (Ok results) ≡ released_by (call, None)
-itself-released (DisposesHandle h) results = refl
-itself-released (DisposesPtr p) results = refl
-itself-released (Empties h) results = refl
+itself-released v0 results = grind arith
 
 -- to have a block
 abbrev a_block : Trait

@@ -79,10 +79,7 @@ module _ (few : Type 0) (call : MemoryCall) (entry t : HandleTable)
 -- a slot that is free stays free
 pub slot-stays : (makes : Bool) (xs ys : List ℕ) → (0 < length xs → 0 < length ys) → (makes && has_none xs) ≡ false
     → (makes && has_none ys) ≡ false
-slot-stays false xs ys keeps h = refl
-slot-stays true [] ys keeps h = absurd (cc h)
-slot-stays true (x ∷ xs) [] keeps h = absurd (omega (arith, keeps (omega arith)))
-slot-stays true (x ∷ xs) (y ∷ ys) keeps h = refl
+slot-stays v0 v1 v2 keeps h = grind arith
 
 master-slots : (makes : Bool) (n x : ℕ) (xs : List ℕ) → (makes && has_none (slots_from (suc n) x ++ xs)) ≡ false
 master-slots true n x xs = refl
@@ -347,11 +344,7 @@ asks_in_vain s heap call = unless-in_vain s call heap (refusal s heap call)
 
 -- where answers are few, the two are the same
 ends-are : (one other : StepEnd) (fewer : Type 0) → Ends fewer one other → fewer → one ≡ other
-ends-are one other fewer ends is =
-    ap (λ outcome. record one { outcome = outcome }) ends.outcome
-    ∙ ap (λ heap. record one { outcome = other.outcome; heap = heap }) ends.heap
-    ∙ ap (λ asks. record one { outcome = other.outcome; heap = other.heap; asks = asks }) (ends.asks is)
-    ∙ ap (λ left. record other { left = left }) ends.left
+ends-are one other fewer ends is = grind arith
 
 module _ (s : Shape) (heap : Heap) (call : MemoryCall) (needed : ℕ) (a : Answer) (later : List Answer)
     (asks : AskedFor (exact_step s [] heap call) needed) where

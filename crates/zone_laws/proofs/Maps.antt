@@ -1,5 +1,5 @@
 -- The words on a map, where some of its blocks are put in place of others.
-use Rattle.std.proofs.Common.{◌≡◌, ℕ, ◌+◌, Bool, true, false, ◌&&◌, cond, [], ◌∷◌, ◌++◌, ap, sym, ◌∙◌, append_assoc, arith}
+use Rattle.std.proofs.Common.{◌≡◌, ℕ, ◌+◌, Bool, true, false, ◌&&◌, cond, [], ◌∷◌, ◌++◌, ap, sym, ◌∙◌, arith}
 use Rattle.std.specs.List.{list_all}
 use Rattle.std.proofs.lemmas.List.Folds.{list_all-append}
 use Rattle.std.proofs.lemmas.Bool.{and_parts, and_from}
@@ -14,11 +14,8 @@ total_size-append (e ∷ es) ys = let rest = total_size-append es ys in omega ar
 
 -- what passes in two parts, the second after the first
 pub addresses_from-append : (at : ℕ) (test : Kind → Bool) (xs ys : ZoneMap) → addresses_from at test (xs ++ ys) ≡ addresses_from at test xs ++ addresses_from (at + total_size xs) test ys
-addresses_from-append at test [] ys = let same : at ≡ at + 0 = omega arith in ap (λ a. addresses_from a test ys) same
-addresses_from-append at test (e ∷ es) ys =
-    let same : (at + e.size) + total_size es ≡ at + (e.size + total_size es) = omega arith in
-    ap (λ found. cond (test e.kind) (at ∷ []) [] ++ found) (addresses_from-append (at + e.size) test es ys ∙ ap (λ a. addresses_from (at + e.size) test es ++ addresses_from a test ys) same)
-    ∙ sym (append_assoc (cond (test e.kind) (at ∷ []) []) (addresses_from (at + e.size) test es) (addresses_from (at + (e.size + total_size es)) test ys))
+addresses_from-append at test [] ys = grind arith
+addresses_from-append at test (e ∷ es) ys = grind (arith, addresses_from-append (at + e.size) test es ys)
 
 -- a block that does not pass adds nothing
 pub addresses_from-skip : (at : ℕ) (test : Kind → Bool) (e : Entry) (es : ZoneMap) → test e.kind ≡ false → addresses_from at test (e ∷ es) ≡ addresses_from (at + e.size) test es

@@ -1,7 +1,7 @@
 -- A request with no more answers than are allowed ends alike, however many more are allowed; and with fewer it asks
 -- alike, too.
 use Rattle.std.proofs.Common.{◌≡◌, ℕ, suc, ◌+◌, ◌-◌, ◌<◌, ◌≤◌, Bool, true, false, cond, length, List, [], ◌∷◌, Option, Some, None, refl, ap, sym, ◌∙◌, arith, length-append}
-use Rattle.std.specs.Prelude.{◌==◌, ◌&&◌, is_some}
+use Rattle.std.specs.Prelude.{◌==◌, is_some}
 use Rattle.std.proofs.lemmas.Bool.Decides.{nat_tests}
 use Rattle.std.specs.List.{cons_option}
 use Rattle.mac_base.specs.declared.request.Request.{Request}
@@ -79,12 +79,7 @@ one-answer o asks ask is = rw (is) refl
 
 length-answers : (asks : List Ask) → all_answered asks ≡ true → length (answers_of asks) ≡ length asks
 length-answers [] all = refl
-length-answers (ask ∷ asks) all = by_answer ask.answer refl all (length-answers asks)
-  where
-    by_answer : (o : Option Answer) → ask.answer ≡ o → (is_some o && all_answered asks) ≡ true
-        → (all_answered asks ≡ true → length (answers_of asks) ≡ length asks) → length (answers_of (ask ∷ asks)) ≡ suc (length asks)
-    by_answer None is h known = absurd (cc h)
-    by_answer (Some a) is rest known = ap length (one-answer (Some a) asks ask is) ∙ ap suc (known rest)
+length-answers (ask ∷ asks) all = grind (arith, length-answers asks, all_answered, answers_of, one-answer)
 
 -- where a request was served, each ask had one of the answers
 pub run-lengths : (s : Shape) (protected : List ℕ) (r : Request) (allowed : ℕ) (answers : List Answer) (heap : Heap)

@@ -79,9 +79,7 @@ used_blocks-around a e c used = filter-append _ a (e ∷ c) ∙ ap (λ b. used_b
 -- open at the one block of x: it, and the free bytes right after it
 pub open_at-parts : (x : ℕ) (b : ZoneMap) (n : ℕ) (front : ZoneMap) (kind : Kind) (back : ZoneMap) → At x b n front kind back
     → open_at x b ≡ used_blocks front ++ block kind n ∷ (free_block (free_bytes b) ++ used_blocks back)
-open_at-parts x b n front kind back at =
-    ap (put_after x (free_block (free_bytes b))) (ap used_blocks at.was ∙ used_blocks-around front (block kind n) back (named-used x kind at.named))
-    ∙ put_after-at x (free_block (free_bytes b)) (used_blocks front) (block kind n) (used_blocks back) (sizes-used (is_named x) front refl ∙ at.none_front) at.named
+open_at-parts x b n front kind back at = grind (arith, named-used, put_after-at, sizes-used, used_blocks-around)
 
 -- The one block of x in a gap, with none of x around it.
 pub record InGap (x : ℕ) (g : Gap) (n : ℕ) : Type 0 where

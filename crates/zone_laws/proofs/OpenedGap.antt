@@ -1,17 +1,15 @@
 -- The block of a number made longer where it is, and in its gap once that was opened for it.
 use Rattle.std.proofs.Common.{◌≡◌, ℕ, ◌+◌, ◌≤◌, true, false, cond, [], ◌∷◌, ◌++◌, refl, ap, sym, ◌∙◌, append_assoc, arith, Some, None, Option}
-use Rattle.std.specs.Prelude.{◌==◌, nat_le, is_some, option_map}
-use Rattle.std.proofs.lemmas.Bool.{leb-true, le-leb, eqb-true}
+use Rattle.std.specs.Prelude.{nat_le, is_some, option_map}
 use Rattle.mac_base.specs.declared.block.Entry.{Entry}
 use Rattle.mac_base.specs.declared.block.Kind.{Kind}
-use Rattle.mac_base.specs.declared.block.Kind.TheVariants.{Free}
 use Rattle.mac_base.specs.HeadKind.{Shape}
 use Rattle.mac_base.specs.ZoneMap.{ZoneMap, block, free_block, is_named, free_bytes, sizes}
 use Rattle.mac_base.specs.HandleTable.{HandleTable}
 use Rattle.mac_base.specs.Suits.{starts_free}
 use Rattle.mac_base.specs.Gap.{Gap, filled, room}
 use Rattle.mac_base.specs.Arrangement.{used_blocks, up, open_at}
-use Rattle.mac_base.specs.Serve.{taken, cut, sized, free_in_front, past_free, resized_in_place}
+use Rattle.mac_base.specs.Serve.{sized, free_in_front, resized_in_place}
 use Rattle.zone_laws.proofs.GapAppend.{sizes-append}
 use Rattle.zone_laws.proofs.GapParts.{IsGap, starts_fixed}
 use Rattle.zone_laws.proofs.Arranging.{all_used, used_blocks-all_used, starts_free-all_used, sizes-used, sizes-free_block}
@@ -44,10 +42,7 @@ resized_in_place-At s k x m n front kind back at = ap (resized_in_place s k x) a
 
 -- a block can be made k bytes long where it and the free bytes right after it have them
 pub is_some-sized : (s : Shape) (k : ℕ) (e : Entry) (b : ZoneMap) → is_some (sized s k e b) ≡ nat_le k (e.size + free_in_front b)
-is_some-sized s k e b = elim (nat_le k e.size) as (λ c. nat_le k e.size ≡ c → is_some (cond c (Some (cut s k e b)) (cond (nat_le k (e.size + free_in_front b)) (Some (taken s k e.kind (e.size + free_in_front b) ++ past_free b)) None)) ≡ nat_le k (e.size + free_in_front b)) [
-  | true ↦ λ fits. let le = leb-true k e.size fits in sym (le-leb k (e.size + free_in_front b) (omega arith))
-  | false ↦ λ not_so. elim (nat_le k (e.size + free_in_front b)) as (λ c. is_some (cond c (Some (taken s k e.kind (e.size + free_in_front b) ++ past_free b)) None) ≡ c) [ true ↦ refl | false ↦ refl ]
-] refl
+is_some-sized s k e b = grind arith
 
 -- the one block of x can be made k bytes long in its place where it and the free bytes right after it have them
 pub is_some-resized_in_place : (s : Shape) (k x : ℕ) (m : ZoneMap) (n : ℕ) (front : ZoneMap) (kind : Kind) (back : ZoneMap) → At x m n front kind back → is_some (resized_in_place s k x m) ≡ nat_le k (n + free_in_front back)
@@ -61,10 +56,7 @@ free_in_front-used (e ∷ es) h = ap (λ c. cond c e.size 0) h
 
 -- one free block in front
 free_in_front-free_block : (n : ℕ) (c : ZoneMap) → starts_free c ≡ false → free_in_front (free_block n ++ c) ≡ n
-free_in_front-free_block n c h = elim (n == 0) as (λ b. (n == 0) ≡ b → free_in_front (cond b [] (block Free n ∷ []) ++ c) ≡ n) [
-  | true ↦ λ none. free_in_front-used c h ∙ sym (eqb-true n 0 none)
-  | false ↦ λ some. refl
-] refl
+free_in_front-free_block n c h = grind arith
 
 starts_free-append : (t : HandleTable) (a b : ZoneMap) → all_used a ≡ true → starts_fixed t b ≡ true → starts_free (a ++ b) ≡ false
 starts_free-append t [] b used fixed = starts_free-fixed t b fixed

@@ -1,10 +1,9 @@
 -- While a request fails and an answer's calls are carried out, what a call protects stays. Made again it is tested,
 -- asks and copies alike.
-use Rattle.std.proofs.Common.{◌≡◌, ℕ, true, false, cond, List, [], ◌∷◌, Option, Some, None, refl, ap, ◌∙◌}
+use Rattle.std.proofs.Common.{arith, ◌≡◌, ℕ, true, false, cond, List, [], ◌∷◌, Option, refl, ap, ◌∙◌}
 use Rattle.std.specs.Prelude.{is_some}
 use Rattle.mac_base.specs.declared.error.OsErr.{OsErr}
 use Rattle.mac_base.specs.declared.releasing.ReleasingCall.{ReleasingCall}
-use Rattle.mac_base.specs.declared.releasing.ReleasingCall.TheVariants.{DisposesHandle, DisposesPtr, Empties}
 use Rattle.mac_base.specs.declared.request.Request.{Request}
 use Rattle.mac_base.specs.HandleTable.{HandleTable, is_locked, live_at, live_flags}
 use Rattle.mac_base.specs.HeadKind.{Shape}
@@ -68,10 +67,7 @@ module _ (s : Shape) (protected : List ℕ) (r : Request) (heap : Heap) where
 
 lent-unless : (call : ReleasingCall) (heap : Heap) (o : Option OsErr)
     → (heap_unless o (heap_released call heap) heap).table.lent ≡ heap.table.lent
-lent-unless call heap (Some code) = refl
-lent-unless (DisposesHandle h) heap None = refl
-lent-unless (DisposesPtr p) heap None = refl
-lent-unless (Empties h) heap None = refl
+lent-unless v0 heap v2 = grind arith
 
 pub kept-carried : (s : Shape) (protected : List ℕ) (calls : List ReleasingCall) (heap : Heap)
     → Kept protected heap (carried_out s protected calls heap).heap

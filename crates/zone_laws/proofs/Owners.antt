@@ -1,15 +1,13 @@
 -- Which blocks a number names, and what their owners want once one of them changes.
-use Rattle.std.proofs.Common.{◌≡◌, ℕ, ◌+◌, Bool, true, false, not, ◌||◌, cond, eqb, List, [], ◌∷◌, ◌++◌, length, refl, ap, ◌∙◌, arith, IsTrue, map}
+use Rattle.std.proofs.Common.{◌≡◌, ℕ, ◌+◌, Bool, true, false, not, ◌||◌, cond, eqb, List, [], ◌∷◌, ◌++◌, refl, ap, ◌∙◌, arith, IsTrue, map}
 use Rattle.std.specs.List.{list_all}
-use Rattle.std.proofs.lemmas.Bool.Decides.{nat_tests}
 use Rattle.std.proofs.lemmas.List.{nil_from_length}
 use Rattle.std.proofs.lemmas.Bool.{not-true, and_parts, not_from_false, and_from}
 use Rattle.mac_base.specs.declared.block.Entry.{Entry}
 use Rattle.mac_base.specs.declared.block.Kind.{Kind}
-use Rattle.mac_base.specs.declared.block.Kind.TheVariants.{Free, Master, Ptr, Rel}
 use Rattle.mac_base.specs.HeadKind.{Shape}
 use Rattle.mac_base.specs.ZoneMap.{ZoneMap, is_free, is_named, addresses_from, addresses, address_after}
-use Rattle.mac_base.specs.HandleTable.{HandleTable, live_bytes, is_full, is_pointer}
+use Rattle.mac_base.specs.HandleTable.{HandleTable, is_full, is_pointer}
 use Rattle.mac_base.specs.Suits.{Suits, is_handle_block, is_pointer_block, has_length, has_owners_length, wanted_length}
 use Rattle.zone_laws.proofs.Tables.{AgreeBut}
 
@@ -19,24 +17,15 @@ none_named x m = list_all (λ (e : Entry). not (is_named x e.kind)) m
 
 -- a number names the blocks of the handle and those of the pointer
 pub not_named : (x : ℕ) (kind : Kind) → is_handle_block x kind ≡ false → is_pointer_block x kind ≡ false → is_named x kind ≡ false
-not_named x Free h p = refl
-not_named x Master h p = refl
-not_named x (Ptr q) h p = p
-not_named x (Rel g) h p = h
+not_named x v1 h p = grind arith
 
 -- x names the block of the handle x
 pub named_handle : (x : ℕ) (kind : Kind) → is_handle_block x kind ≡ true → is_named x kind ≡ true
-named_handle x Free h = absurd (cc h)
-named_handle x Master h = absurd (cc h)
-named_handle x (Ptr q) h = absurd (cc h)
-named_handle x (Rel g) h = h
+named_handle x v1 h = grind arith
 
 -- x names the block of the pointer x
 pub named_pointer : (x : ℕ) (kind : Kind) → is_pointer_block x kind ≡ true → is_named x kind ≡ true
-named_pointer x Free h = absurd (cc h)
-named_pointer x Master h = absurd (cc h)
-named_pointer x (Ptr q) h = h
-named_pointer x (Rel g) h = absurd (cc h)
+named_pointer x v1 h = grind arith
 
 -- an empty list in two parts, of which the first has an element where a test passes
 pub nothing_passes : (b : Bool) (a : ℕ) (rest : List ℕ) → cond b (a ∷ []) [] ++ rest ≡ [] → (b ≡ false) × (rest ≡ [])
@@ -70,10 +59,7 @@ none_named-suits s t m suits x full pointer = none_named-from (address_after s [
 
 -- what a block's owner wants changes only where its bytes do
 pub wanted_length-agree : (x : ℕ) (old new : HandleTable) → AgreeBut x old new → (kind : Kind) → is_named x kind ≡ false → wanted_length new kind ≡ wanted_length old kind
-wanted_length-agree x old new a Free h = refl
-wanted_length-agree x old new a Master h = refl
-wanted_length-agree x old new a (Ptr p) h = ap (λ o. length (live_bytes o)) (a.others p h)
-wanted_length-agree x old new a (Rel g) h = ap (λ o. length (live_bytes o)) (a.others g h)
+wanted_length-agree x old new a v4 h = grind arith
 
 -- so whether a block has its owner's length changes only there
 pub has_owners_length-agree : (s : Shape) (x : ℕ) (old new : HandleTable) → AgreeBut x old new → (e : Entry) → is_named x e.kind ≡ false → has_owners_length s new e ≡ has_owners_length s old e
@@ -89,14 +75,8 @@ lengths-agree s x old new a (e ∷ es) none h =
 
 -- the block of another handle is not named x
 pub other_handle : (x g : ℕ) → eqb g x ≡ false → (kind : Kind) → is_handle_block g kind ≡ true → is_named x kind ≡ false
-other_handle x g apart Free h = absurd (cc h)
-other_handle x g apart Master h = absurd (cc h)
-other_handle x g apart (Ptr q) h = absurd (cc h)
-other_handle x g apart (Rel f) h = grind (arith, nat_tests)
+other_handle x g apart v3 h = grind arith
 
 -- the block of another pointer is not named x
 pub other_pointer : (x p : ℕ) → eqb p x ≡ false → (kind : Kind) → is_pointer_block p kind ≡ true → is_named x kind ≡ false
-other_pointer x p apart Free h = absurd (cc h)
-other_pointer x p apart Master h = absurd (cc h)
-other_pointer x p apart (Ptr q) h = grind (arith, nat_tests)
-other_pointer x p apart (Rel f) h = absurd (cc h)
+other_pointer x p apart v3 h = grind arith

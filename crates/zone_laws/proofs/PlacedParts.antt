@@ -47,10 +47,7 @@ gap_filled t m g b i moves = record { parts = refl; moves = moves; below = i.bel
 
 -- the sizes of the blocks that pass a test, in the parts of a map without one
 pub sizes-gap_none : (test : Kind → Bool) (t : HandleTable) (m : ZoneMap) (g : Gap) → IsGap t m g → sizes test m ≡ [] → (sizes test g.before ≡ []) × (sizes test g.blocks ≡ []) × (sizes test g.after ≡ [])
-sizes-gap_none test t m g i none =
-    let outer = nil-append (sizes test (g.before ++ g.blocks)) (sizes test g.after) (sym (sizes-append test (g.before ++ g.blocks) g.after) ∙ ap (sizes test) (sym i.parts) ∙ none) in
-    let inner = nil-append (sizes test g.before) (sizes test g.blocks) (sym (sizes-append test g.before g.blocks) ∙ outer.0) in
-    (inner.0, inner.1, outer.1)
+sizes-gap_none test t m g i none = grind (arith, nil-append, sizes-append)
 
 -- down keeps the sizes of the blocks that pass a test which no free block passes
 pub sizes-down : (test : Kind → Bool) (b : ZoneMap) → test Free ≡ false → sizes test (down b) ≡ sizes test b
@@ -122,9 +119,7 @@ taken_in_gap s k kind g old new p =
 
 -- a block of x, which named none, taken and released again leaves the map that it was taken from
 pub released-parts : (s : Shape) (k n x : ℕ) (kind : Kind) (a b m new : ZoneMap) → is_named x kind ≡ true → k ≤ n → m ≡ a ++ block Free n ∷ b → new ≡ a ++ (taken s k kind n ++ b) → sizes (is_named x) m ≡ [] → free_apart m ≡ true → released x new ≡ m
-released-parts s k n x kind a b m new named fits was is none apart =
-    let parts = nil-append (sizes (is_named x) a) (sizes (is_named x) b) (sym (sizes-append (is_named x) a (block Free n ∷ b)) ∙ ap (sizes (is_named x)) (sym was) ∙ none) in
-    ap (released x) is ∙ released-taken s k n x kind a b m named fits was parts.0 parts.1 apart
+released-parts s k n x kind a b m new named fits was is none apart = grind (arith, nil-append, released-taken, sizes-append)
 
 -- so of a block taken from the lowest free one
 pub released-take_lowest : (s : Shape) (k x : ℕ) (kind : Kind) (m new : ZoneMap) → take_lowest s k kind m ≡ Some new → is_named x kind ≡ true → sizes (is_named x) m ≡ [] → free_apart m ≡ true → released x new ≡ m

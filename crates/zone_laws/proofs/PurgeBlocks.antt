@@ -1,17 +1,16 @@
 -- Among which blocks a request may purge, read from one end of the map to the other: free blocks don't matter, and
 -- fewer movable blocks leave fewer.
-use Rattle.std.proofs.Common.{◌≡◌, ℕ, Bool, true, false, not, cond, List, [], ◌∷◌, ◌++◌, refl, ap, sym, ◌∙◌, append-nil, Some, Option}
+use Rattle.std.proofs.Common.{arith, ◌≡◌, ℕ, Bool, true, false, not, cond, List, [], ◌∷◌, ◌++◌, refl, ap, sym, ◌∙◌, append-nil, Some, Option}
 use Rattle.std.specs.Prelude.{◌&&◌, ◌||◌, map, find, filter, filter_map, ◌-◌, ◌+◌}
 use Rattle.std.specs.Option.{option_map_or}
 use Rattle.std.specs.List.{All, list_all}
 use Rattle.std.proofs.lemmas.Bool.{and_from, and_parts, or_right, true≢false}
 use Rattle.std.proofs.lemmas.List.Elements.{All-head, All-tail, filter-append}
 use Rattle.mac_base.specs.declared.block.Entry.{Entry}
-use Rattle.mac_base.specs.declared.block.Kind.{Kind}
-use Rattle.mac_base.specs.declared.block.Kind.TheVariants.{Free, Master, Ptr, Rel}
+use Rattle.mac_base.specs.declared.block.Kind.TheVariants.{Free}
 use Rattle.mac_base.specs.HeadKind.{Shape, zone_header}
 use Rattle.mac_base.specs.ZoneMap.{ZoneMap, block, is_free, is_named, handle_of, free_block, joined, joined_to, released, total_size, at_limit}
-use Rattle.mac_base.specs.HandleTable.{HandleTable, is_locked, is_purgeable}
+use Rattle.mac_base.specs.HandleTable.{HandleTable, is_purgeable}
 use Rattle.mac_base.specs.Gap.{Gap, gaps, further, is_fixed, gap_after, ends_with}
 use Rattle.mac_base.specs.Arrangement.{used_blocks}
 use Rattle.mac_base.specs.declared.request.Request.{Request}
@@ -50,13 +49,7 @@ ends_with-further x e (f ∷ b) h = refl
 -- gaps with something before them are found as before where one block more lies below
 found-further : (t : HandleTable) (m : ZoneMap) (x : ℕ) (e : Entry) (gs : List Gap) → All (IsLater t m) gs → blocks_of (find (λ g. ends_with x g.before) (map (further e) gs)) ≡ blocks_of (find (λ g. ends_with x g.before) gs)
 found-further t m x e [] each = refl
-found-further t m x e (g ∷ gs) each =
-    let later = All-head (IsLater t m) g gs each in
-    ap (λ c. blocks_of (cond c (Some (further e g)) (find (λ g. ends_with x g.before) (map (further e) gs)))) (ends_with-further x e g.before later.some_before)
-    ∙ elim (ends_with x g.before) as (λ c. blocks_of (cond c (Some (further e g)) (find (λ g. ends_with x g.before) (map (further e) gs))) ≡ blocks_of (cond c (Some g) (find (λ g. ends_with x g.before) gs))) [
-      | true ↦ refl
-      | false ↦ found-further t m x e gs (All-tail (IsLater t m) g gs each)
-    ]
+found-further t m x e (g ∷ gs) each = grind (arith, found-further t m x e gs (All-tail (IsLater t m) g gs each), All-head, All-tail, IsLater, ends_with-further)
 
 found-later : (t : HandleTable) (x : ℕ) (m : ZoneMap) → blocks_of (find (λ g. ends_with x g.before) (later_gaps t m)) ≡ run_after t x m
 found-later t x [] = refl
@@ -142,24 +135,12 @@ purge_blocks-filter t q (Replace g n) m h = refl
 -- fixed blocks are in use
 used_kept : (t : HandleTable) (m : ZoneMap) → keeps_fixed t (λ (e : Entry). not (is_free e.kind)) m ≡ true
 used_kept t [] = refl
-used_kept t (e ∷ es) = and_from (not (is_fixed t e.kind) || not (is_free e.kind)) _ (by_kind e.kind) (used_kept t es)
-  where
-    by_kind : (k : Kind) → (not (is_fixed t k) || not (is_free k)) ≡ true
-    by_kind Free = refl
-    by_kind Master = refl
-    by_kind (Ptr p) = refl
-    by_kind (Rel g) = or_right (not (is_locked t g)) true refl
+used_kept t (e ∷ es) = grind (arith, used_kept t es, and_from, or_right)
 
 -- the handles of blocks are those of the blocks in use
 handles-used : (m : ZoneMap) → filter_map (λ (e : Entry). handle_of e.kind) (used_blocks m) ≡ filter_map (λ (e : Entry). handle_of e.kind) m
 handles-used [] = refl
-handles-used (e ∷ es) = by_kind e.size e.kind (handles-used es)
-  where
-    by_kind : (n : ℕ) (k : Kind) → filter_map (λ (e : Entry). handle_of e.kind) (used_blocks es) ≡ filter_map (λ (e : Entry). handle_of e.kind) es → filter_map (λ (e : Entry). handle_of e.kind) (used_blocks (block k n ∷ es)) ≡ filter_map (λ (e : Entry). handle_of e.kind) (block k n ∷ es)
-    by_kind n Free rest = rest
-    by_kind n Master rest = rest
-    by_kind n (Ptr p) rest = rest
-    by_kind n (Rel g) rest = ap (λ hs. g ∷ hs) rest
+handles-used (e ∷ es) = grind (arith, handles-used es)
 
 -- the handles of the blocks among which a request may purge
 abbrev pub purge_handles : HandleTable → Request → ZoneMap → List ℕ

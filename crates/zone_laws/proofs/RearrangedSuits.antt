@@ -3,11 +3,10 @@ use Rattle.std.proofs.Common.{◌≡◌, ℕ, ◌+◌, ◌-◌, Bool, true, fals
 use Rattle.std.specs.Prelude.{◌||◌, ◌⊎◌, ◌↔◌, map, IsFalse, Contains, flat_map}
 use Rattle.std.specs.List.{list_all}
 use Rattle.std.proofs.lemmas.Bool.{and_from, and_parts, or_left, or_right, or_cases, false≢true, cases_Bool}
-use Rattle.std.proofs.lemmas.Bool.Decides.{nat_tests}
 use Rattle.std.proofs.lemmas.List.Folds.{list_all-append}
 use Rattle.mac_base.specs.declared.block.Entry.{Entry}
 use Rattle.mac_base.specs.declared.block.Kind.{Kind}
-use Rattle.mac_base.specs.declared.block.Kind.TheVariants.{Free, Master, Ptr, Rel}
+use Rattle.mac_base.specs.declared.block.Kind.TheVariants.{Master, Ptr, Rel}
 use Rattle.mac_base.specs.HeadKind.{Shape, zone_header, head_size, slot_count}
 use Rattle.mac_base.specs.ZoneMap.{ZoneMap, Rearranged, is_free, is_kind, sizes, address_after, contents_addresses}
 use Rattle.mac_base.specs.HandleTable.{HandleTable, is_handle}
@@ -15,7 +14,7 @@ use Rattle.mac_base.specs.Suits.{Suits, free_apart, is_handle_block, is_pointer_
 use Rattle.mac_base.specs.Gap.{Gap, filled, is_fixed}
 use Rattle.mac_base.specs.Heap.{Heap, with_map}
 use Rattle.mac_base.specs.Sound.{Sound, is_growth}
-use Rattle.zone_laws.proofs.GapAppend.{same_test, length-addresses_from}
+use Rattle.zone_laws.proofs.GapAppend.{length-addresses_from}
 use Rattle.zone_laws.proofs.GapParts.{IsGap}
 use Rattle.zone_laws.proofs.Arranging.{IsArrangement}
 use Rattle.zone_laws.proofs.ArrangingNamed.{is_kind-same}
@@ -24,30 +23,15 @@ use Rattle.zone_laws.proofs.Rearranging.{gap-Rearranged}
 
 -- a handle's own blocks are those of its kind
 pub handle_block-kind : (h : ℕ) → is_handle_block h ≡ is_kind (Rel h)
-handle_block-kind h = same_test (at h)
-  where
-    at : (h : ℕ) (k : Kind) → is_handle_block h k ≡ is_kind (Rel h) k
-    at h Free = refl
-    at h Master = refl
-    at h (Ptr p) = refl
-    at h (Rel g) = grind (arith, nat_tests)
+handle_block-kind h = grind arith
 
 -- and so are a pointer's
 pub pointer_block-kind : (p : ℕ) → is_pointer_block p ≡ is_kind (Ptr p)
-pointer_block-kind p = same_test (at p)
-  where
-    at : (p : ℕ) (k : Kind) → is_pointer_block p k ≡ is_kind (Ptr p) k
-    at p Free = refl
-    at p Master = refl
-    at p (Ptr q) = grind (arith, nat_tests)
-    at p (Rel g) = refl
+pointer_block-kind p = grind arith
 
 -- a kind is one with itself
 pub is_kind-itself : (k : Kind) → is_kind k k ≡ true
-is_kind-itself Free = refl
-is_kind-itself Master = refl
-is_kind-itself (Ptr p) = grind (arith, nat_tests)
-is_kind-itself (Rel h) = grind (arith, nat_tests)
+is_kind-itself v0 = grind arith
 
 -- what each block in use passes, by kind and size
 abbrev pub used_pass : (Kind → ℕ → Bool) → ZoneMap → Bool

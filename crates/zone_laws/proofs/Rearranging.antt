@@ -4,7 +4,6 @@ use Rattle.std.specs.List.{list_all}
 use Rattle.std.proofs.lemmas.Bool.{and_from, and_parts, not-true, false_from_ne_true, true≢false}
 use Rattle.mac_base.specs.declared.block.Entry.{Entry}
 use Rattle.mac_base.specs.declared.block.Kind.{Kind}
-use Rattle.mac_base.specs.declared.block.Kind.TheVariants.{Free, Master, Ptr, Rel}
 use Rattle.mac_base.specs.HeadKind.{Shape}
 use Rattle.mac_base.specs.ZoneMap.{ZoneMap, Rearranged, is_free, is_kind, total_size, sizes, address_after, addresses_from}
 use Rattle.mac_base.specs.HandleTable.{HandleTable}
@@ -30,10 +29,7 @@ Rearranged-weaker s p q a b h r = record { same_blocks = r.same_blocks; same_pla
 
 -- a fixed block is in use
 pub fixed-used : (t : HandleTable) (k : Kind) → is_fixed t k ≡ true → is_free k ≡ false
-fixed-used t Free h = absurd (cc h)
-fixed-used t Master h = refl
-fixed-used t (Ptr p) h = refl
-fixed-used t (Rel g) h = refl
+fixed-used t v1 h = grind arith
 
 not_of_kind : (t : HandleTable) (k l : Kind) → is_fixed t k ≡ true → not (is_fixed t l) ≡ true → not (is_kind k l) ≡ true
 not_of_kind t k l fixed moves = ap not (false_from_ne_true (is_kind k l) (λ is. let same = ap (is_fixed t) (is_kind-same k l is) in true≢false (sym fixed ∙ same ∙ not-true _ moves)))

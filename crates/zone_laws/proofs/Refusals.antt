@@ -65,9 +65,7 @@ pointer-block s heap p is = or_right (is_full heap.table p) (is_pointer heap.tab
 
 -- what is passed as a block is a live handle or pointer
 pub passed-IsBlock : (s : Shape) (heap : Heap) (x : ℕ) → refused_by s heap (IsBlock x) ≡ None → (x ≢ 0) × ((is_handle heap.table x || is_pointer heap.table x) ≡ true)
-passed-IsBlock s heap x is =
-    let parts = not_nil (eqb x 0) (unless_passed MemWzErr (is_handle heap.table x || is_pointer heap.table x)) is in
-    (apart_from_nil x parts.0, passed MemWzErr (is_handle heap.table x || is_pointer heap.table x) parts.1)
+passed-IsBlock s heap x is = grind arith
 
 -- what isn't empty has a block
 pub passed-NotEmpty : (s : Shape) (heap : Heap) (x : ℕ) → refused_by s heap (NotEmpty x) ≡ None → (is_full heap.table x || is_pointer heap.table x) ≡ true

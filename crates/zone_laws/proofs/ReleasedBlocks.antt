@@ -1,17 +1,17 @@
 -- A map once the blocks of a number are free.
-use Rattle.std.proofs.Common.{◌≡◌, ℕ, ◌+◌, ◌-◌, ◌≤◌, Bool, true, false, cond, [], ◌∷◌, ◌++◌, refl, ap, sym, ◌∙◌, arith}
-use Rattle.std.specs.Prelude.{map, nat_lt, if◌then◌else◌}
+use Rattle.std.proofs.Common.{◌≡◌, ℕ, ◌+◌, ◌≤◌, Bool, true, false, cond, [], ◌∷◌, ◌++◌, refl, ap, sym, ◌∙◌, arith}
+use Rattle.std.specs.Prelude.{map, if◌then◌else◌}
 use Rattle.std.proofs.lemmas.List.{map-append}
 use Rattle.mac_base.specs.declared.block.Entry.{Entry}
 use Rattle.mac_base.specs.declared.block.Kind.{Kind}
 use Rattle.mac_base.specs.declared.block.Kind.TheVariants.{Free}
-use Rattle.mac_base.specs.HeadKind.{Shape, smallest_block}
+use Rattle.mac_base.specs.HeadKind.{Shape}
 use Rattle.mac_base.specs.ZoneMap.{ZoneMap, Rearranged, block, is_free, is_named, is_kind, joined, released, total_size, address_after, addresses_from, sizes}
 use Rattle.mac_base.specs.Suits.{free_apart}
 use Rattle.mac_base.specs.Serve.{taken}
 use Rattle.zone_laws.proofs.Arranging.{is_kind-free}
 use Rattle.zone_laws.proofs.ArrangingNamed.{other_kind}
-use Rattle.zone_laws.proofs.JoinedBlocks.{joined-apart, joined-front, joined-two, total_size-joined, sizes-joined, addresses_from-joined, free_apart-joined}
+use Rattle.zone_laws.proofs.JoinedBlocks.{joined-apart, joined-front, total_size-joined, sizes-joined, addresses_from-joined, free_apart-joined}
 
 -- a block, free if x names it
 abbrev pub marked_block : ℕ → Entry → Entry
@@ -99,11 +99,7 @@ Rearranged-released s stays x old new used r =
 
 -- a block of x that was cut from free bytes joins with the rest once it is free
 pub joined-marked_taken : (s : Shape) (k n x : ℕ) (kind : Kind) (b : ZoneMap) → is_named x kind ≡ true → k ≤ n → joined (marked x (taken s k kind n) ++ b) ≡ joined (block Free n ∷ b)
-joined-marked_taken s k n x kind b named fits =
-    elim (nat_lt (n - k) (smallest_block s.heads)) as (λ c. joined (marked x (cond c (block kind n ∷ []) (block kind k ∷ block Free (n - k) ∷ [])) ++ b) ≡ joined (block Free n ∷ b)) [
-      | true ↦ ap (λ c. joined (cond c (block Free n) (block kind n) ∷ b)) named
-      | false ↦ ap (λ c. joined (cond c (block Free k) (block kind k) ∷ block Free (n - k) ∷ b)) named ∙ joined-two k (n - k) b ∙ ap (λ n. joined (block Free n ∷ b)) (let e : k + (n - k) ≡ n = omega arith in e)
-    ]
+joined-marked_taken s k n x kind b named fits = grind arith
 
 -- to take n free bytes for x, which names no other block, and to release them is to do nothing
 pub released-taken : (s : Shape) (k n x : ℕ) (kind : Kind) (a b m : ZoneMap) → is_named x kind ≡ true → k ≤ n → m ≡ a ++ block Free n ∷ b → sizes (is_named x) a ≡ [] → sizes (is_named x) b ≡ [] → free_apart m ≡ true

@@ -6,7 +6,7 @@ use Rattle.mac_base.specs.declared.block.Entry.{Entry}
 use Rattle.mac_base.specs.declared.block.Kind.{Kind}
 use Rattle.mac_base.specs.declared.block.Kind.TheVariants.{Free, Rel}
 use Rattle.mac_base.specs.HeadKind.{Shape, head_size, smallest_block}
-use Rattle.mac_base.specs.ZoneMap.{ZoneMap, block, is_free, is_named, joined, joined_to, released, total_size, address_after, addresses_from, contents_of, sizes}
+use Rattle.mac_base.specs.ZoneMap.{ZoneMap, block, is_free, is_named, joined, released, total_size, address_after, addresses_from, contents_of, sizes}
 use Rattle.mac_base.specs.Serve.{taken, cut, sized, free_in_front, past_free, resized_in_place, renamed}
 use Rattle.zone_laws.proofs.Arranging.{free_is, named-used}
 use Rattle.zone_laws.proofs.NamedPlace.{At}
@@ -22,10 +22,7 @@ marked-free x e free = ap (λ kind. marked_block x (record { size = e.size; kind
 -- to mark the blocks of x in a joined map, and join, is to mark and join
 pub joined-marked_joined : (x : ℕ) (m : ZoneMap) → joined (marked x (joined m)) ≡ joined (marked x m)
 joined-marked_joined x [] = refl
-joined-marked_joined x (e ∷ es) =
-    join_cases (λ j. joined (marked x j) ≡ joined (marked x (e ∷ joined es))) e (joined es) (λ f fs was free also_free.
-    sym (joined-two e.size f.size (marked x fs)) ∙ ap (λ b. joined (b ∷ block Free f.size ∷ marked x fs)) (sym (marked-free x e free)) ∙ ap (λ b. joined (marked_block x e ∷ b ∷ marked x fs)) (sym (marked-free x f also_free)) ∙ ap (λ m. joined (marked x (e ∷ m))) (sym was)) refl
-    ∙ ap (joined_to (marked_block x e)) (joined-marked_joined x es)
+joined-marked_joined x (e ∷ es) = grind (arith, joined-marked_joined x es, join_cases, joined-two, marked, marked-free, marked_block)
 
 -- the free bytes in front, where there are some, are a block
 pub free_in_front-is : (b : ZoneMap) → 0 < free_in_front b → b ≡ block Free (free_in_front b) ∷ past_free b
@@ -37,23 +34,7 @@ free_in_front-is (e ∷ es) h = elim (is_free e.kind) as (λ c. is_free e.kind �
 
 -- A block of x made k bytes long: without it, the same free bytes.
 sized-released : (s : Shape) (k x n : ℕ) (kind : Kind) (b r : ZoneMap) → is_named x kind ≡ true → sized s k (block kind n) b ≡ Some r → joined (marked x r) ≡ joined (block Free n ∷ marked x b)
-sized-released s k x n kind b r named h = elim (nat_le k n) as (λ c. nat_le k n ≡ c → cond c (Some (cut s k (block kind n) b)) (longer (nat_le k (n + free_in_front b))) ≡ Some r → joined (marked x r) ≡ joined (block Free n ∷ marked x b)) [
-  | true ↦ λ fits is. ap (λ o. joined (marked x o)) (sym (some_same is)) ∙ joined-marked_joined x (taken s k kind n ++ b) ∙ ap joined (marked-append x (taken s k kind n) b) ∙ joined-marked_taken s k n x kind (marked x b) named (leb-true k n fits)
-  | false ↦ λ not_so. by_room (leb-false k n not_so) (nat_le k (n + free_in_front b)) refl
-] refl h
-  where
-    longer : Bool → Option ZoneMap
-    longer c = cond c (Some (taken s k kind (n + free_in_front b) ++ past_free b)) None
-
-    some_same : {p q : ZoneMap} → Some p ≡ Some q → p ≡ q
-    some_same e = cc e
-
-    by_room : n < k → (c : Bool) → nat_le k (n + free_in_front b) ≡ c → longer c ≡ Some r → joined (marked x r) ≡ joined (block Free n ∷ marked x b)
-    by_room large true room is =
-        let fits = leb-true k (n + free_in_front b) room in
-        ap (λ o. joined (marked x o)) (sym (some_same is)) ∙ ap joined (marked-append x (taken s k kind (n + free_in_front b)) (past_free b)) ∙ joined-marked_taken s k (n + free_in_front b) x kind (marked x (past_free b)) named fits
-        ∙ sym (joined-two n (free_in_front b) (marked x (past_free b))) ∙ ap (λ c. joined (block Free n ∷ marked x c)) (sym (free_in_front-is b (omega arith)))
-    by_room large false none is = absurd (cc is)
+sized-released s k x n kind b r named h = grind (arith, free_in_front-is, joined-marked_joined, joined-marked_taken, joined-two, leb-false, leb-true, marked, marked-append)
 
 -- a block of x resized where it is: without it, the map is as before
 pub released-resized_in_place : (s : Shape) (k x : ℕ) (m : ZoneMap) (n : ℕ) (front : ZoneMap) (kind : Kind) (back new : ZoneMap) → At x m n front kind back → resized_in_place s k x m ≡ Some new → released x new ≡ released x m
@@ -125,13 +106,7 @@ contents_of-At s x m n front kind back at = ap (contents_of s x) at.was ∙ cont
 -- to mark the blocks of two numbers, in either order
 marked-twice : (x y : ℕ) (m : ZoneMap) → marked x (marked y m) ≡ marked y (marked x m)
 marked-twice x y [] = refl
-marked-twice x y (e ∷ es) = ap (λ b. b ∷ marked x (marked y es)) (one e.size e.kind) ∙ ap (λ m. marked_block y (marked_block x e) ∷ m) (marked-twice x y es)
-  where
-    one : (n : ℕ) (k : Kind) → marked_block x (marked_block y (block k n)) ≡ marked_block y (marked_block x (block k n))
-    one n k = elim (is_named y k) as (λ c. is_named y k ≡ c → marked_block x (cond c (block Free n) (block k n)) ≡ marked_block y (marked_block x (block k n))) [
-      | true ↦ λ here. elim (is_named x k) as (λ c. block Free n ≡ marked_block y (cond c (block Free n) (block k n))) [ true ↦ refl | false ↦ sym (ap (λ c. cond c (block Free n) (block k n)) here) ]
-      | false ↦ λ other. elim (is_named x k) as (λ c. cond c (block Free n) (block k n) ≡ marked_block y (cond c (block Free n) (block k n))) [ true ↦ refl | false ↦ sym (ap (λ c. cond c (block Free n) (block k n)) other) ]
-    ] refl
+marked-twice x y (e ∷ es) = grind (arith, marked-twice x y es, marked, marked_block)
 
 -- a block that was under another number, put under x, which named none, and released
 marked-renamed : (z x : ℕ) (m : ZoneMap) → sizes (is_named x) m ≡ [] → marked x (renamed z x m) ≡ marked z m

@@ -1,11 +1,10 @@
 -- What a call makes of the table, by what each release of a block makes of it.
-use Rattle.std.proofs.Common.{◌≡◌, ℕ, ◌-◌, Bool, true, false, cond, length, List, [], ◌∷◌, ◌++◌, Option, Some, None, Ok, Err, MatchOption, Contains, refl, ap, sym, ◌∙◌, subst, inl, inr}
+use Rattle.std.proofs.Common.{arith, ◌≡◌, ℕ, ◌-◌, Bool, true, false, cond, length, List, [], ◌∷◌, ◌++◌, Option, Some, None, Ok, Err, MatchOption, Contains, refl, ap, sym, ◌∙◌, subst, inl, inr}
 use Rattle.std.specs.Prelude.{◌⊎◌, ◌==◌, MatchBool}
 use Rattle.std.proofs.lemmas.List.Elements.{filter_map-append}
 use Rattle.mac_base.specs.declared.error.OsErr.{OsErr}
-use Rattle.mac_base.specs.declared.error.OsErr.TheVariants.{MemPurErr, MemFullErr}
+use Rattle.mac_base.specs.declared.error.OsErr.TheVariants.{MemFullErr}
 use Rattle.mac_base.specs.declared.releasing.ReleasingCall.{ReleasingCall}
-use Rattle.mac_base.specs.declared.releasing.ReleasingCall.TheVariants.{DisposesHandle, DisposesPtr, Empties}
 use Rattle.mac_base.specs.declared.request.Request.{Request}
 use Rattle.mac_base.specs.declared.request.Request.TheVariants.{NewMaster}
 use Rattle.mac_base.specs.HandleTable.{HandleTable, is_lent}
@@ -18,13 +17,12 @@ use Rattle.mac_base.specs.declared.memory_call.MemoryCall.{MemoryCall}
 use Rattle.mac_base.specs.declared.reply.Results.{Results}
 use Rattle.mac_base.specs.Effect.{table_copied}
 use Rattle.mac_base.specs.GrowZone.{Answer, Ask, Carried, answers_in, carried_from, carried_once, carried_out, heap_unless, memory_call, most_answers}
-use Rattle.mac_base.specs.MemoryStep.{AfterMaster, EndsRequest, MemoryStep, OwnRequest, RequestStep, StepUnless}
+use Rattle.mac_base.specs.MemoryStep.{AfterMaster, EndsRequest, MemoryStep, OwnRequest, RequestStep}
 use Rattle.mac_base.specs.Outcomes.{Outcome, given_results}
 use Rattle.mac_base.specs.RequestRun.{EndsUnserved, RequestRun}
-use Rattle.mac_base.specs.Tests.{IsHandle, IsPointer, NotLent, NotLocked, protected_by, refusal}
+use Rattle.mac_base.specs.Tests.{protected_by, refusal}
 use Rattle.zone_laws.proofs.SlotPlaces.{Contains-here, Contains-later}
 use Rattle.zone_laws.proofs.Emptied.{MayEmpty, candidate-is, may-still}
-use Rattle.zone_laws.proofs.Refusals.{passed-NotLent, test_2}
 
 -- A relation of a table to a later one: to itself, over two changes, where a handle is purged that isn't protected,
 -- and, if there are answers, where one of their calls releases a block.
@@ -66,9 +64,7 @@ both_answered answers asks one other is (inl none) =
 
 -- an answer's call that isn't refused is on no lent block
 released-here : (s : Shape) (heap : Heap) (call : ReleasingCall) → refusal s heap (memory_call call) ≡ None → is_lent heap.table (operand_of call) ≡ false
-released-here s heap (DisposesHandle h) is = passed-NotLent s heap h (test_2 s heap (IsHandle h) (NotLent h) [] is)
-released-here s heap (DisposesPtr p) is = passed-NotLent s heap p (test_2 s heap (IsPointer p) (NotLent p) [] is)
-released-here s heap (Empties h) is = passed-NotLent s heap h (test_2 s heap (IsHandle h) (NotLent h) (NotLocked MemPurErr h ∷ []) is)
+released-here s heap v2 is = grind arith
 
 pub table-grown : (s : Shape) (b : Bool) (heap : Heap) → (cond b (grown s heap) heap).table ≡ heap.table
 table-grown s true heap = refl
@@ -149,11 +145,7 @@ module _ (s : Shape) (protected : List ℕ) (answers : Type 0) (R : HandleTable 
 
 -- a call with an outcome of its own isn't refused
 pub passed-ok : (s : Shape) (old : Heap) (call : MemoryCall) (asks : List Ask) (res : Results) (new : Heap) → MemoryStep s old call asks (Ok res) new → refusal s old call ≡ None
-passed-ok s old call asks res new step = by_refusal (refusal s old call) refl step
-  where
-    by_refusal : (o : Option OsErr) → refusal s old call ≡ o → StepUnless RequestRun o s old call asks (Ok res) new → refusal s old call ≡ None
-    by_refusal None is step = is
-    by_refusal (Some code) is step = absurd (cc step.1)
+passed-ok s old call asks res new step = grind arith
 
 module _ (s : Shape) (call : MemoryCall) (answers : Type 0) (R : HandleTable → HandleTable → Type 0) (rel : Releases (protected_by call) answers R) where
   -- the call's own request, and the one for a master block before it

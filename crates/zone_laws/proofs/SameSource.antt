@@ -1,6 +1,6 @@
 -- A copy from a pointer is what a call makes of the pointer's bytes that brings them: a pointer isn't purged, so it is
 -- all the same whether it is protected.
-use Rattle.std.proofs.Common.{◌≡◌, ℕ, ◌+◌, ◌-◌, ◌≤◌, Bool, true, false, not, cond, eqb, List, [], ◌∷◌, ◌++◌, length, take, Option, Some, None, MatchOption, refl, ap, sym, subst, ◌∙◌}
+use Rattle.std.proofs.Common.{arith, ◌≡◌, ℕ, ◌+◌, ◌-◌, ◌≤◌, Bool, true, false, not, cond, eqb, List, [], ◌∷◌, ◌++◌, length, take, Option, Some, None, MatchOption, refl, ap, sym, subst, ◌∙◌}
 use Rattle.std.specs.Prelude.{◌&&◌, ◌||◌, ◌==◌, filter, filter_map, nat_le}
 use Rattle.std.specs.List.{list_all}
 use Rattle.std.specs.Option.{option_or}
@@ -10,7 +10,7 @@ use Rattle.mac_base.specs.declared.error.OsErr.TheVariants.{ParamErr}
 use Rattle.mac_base.specs.declared.releasing.ReleasingCall.{ReleasingCall}
 use Rattle.mac_base.specs.declared.request.Request.{Request}
 use Rattle.mac_base.specs.declared.request.Request.TheVariants.{NewBlock, NewMaster, Resize}
-use Rattle.mac_base.specs.HandleTable.{HandleTable, Live, EmptyHandle, FullHandle, Pointer, bytes_of, is_pointer, is_purgeable, live_at, live_flags, live_full, live_pointer}
+use Rattle.mac_base.specs.HandleTable.{HandleTable, Live, bytes_of, is_pointer, is_purgeable, live_at, live_flags, live_full, live_pointer}
 use Rattle.mac_base.specs.HeadKind.{Shape, max_size}
 use Rattle.mac_base.specs.Heap.{Heap, front_slot, grown, has_none, with_all_emptied}
 use Rattle.mac_base.specs.Releasing.{heap_released, operand_of}
@@ -36,10 +36,7 @@ use Rattle.zone_laws.proofs.StepRequests.{length-taken}
 
 -- a pointer isn't purgeable
 pointer_stays : (o : Option Live) → live_pointer o ≡ true → (live_full o && ((live_flags o).purge && not (live_flags o).lock)) ≡ false
-pointer_stays None h = absurd (cc h)
-pointer_stays (Some EmptyHandle) h = absurd (cc h)
-pointer_stays (Some (FullHandle flags bytes)) h = absurd (cc h)
-pointer_stays (Some (Pointer bytes)) h = refl
+pointer_stays v0 h = grind arith
 
 module _ (p : ℕ) (ps : List ℕ) where
   -- ---- what may be purged

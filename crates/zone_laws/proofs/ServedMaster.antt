@@ -106,12 +106,7 @@ free_either false n = refl
 
 -- the block that was taken, freed by its address, joins with what was left over
 joined-freed_taken : (s : Shape) (k n x at : ℕ) (kind : Kind) (b : ZoneMap) → at ≡ x → 0 < k → k ≤ n → joined (freed_at at x (taken s k kind n ++ b)) ≡ joined (block Free n ∷ b)
-joined-freed_taken s k n x at kind b same some fits =
-    elim (nat_lt (n - k) (smallest_block s.heads)) as (λ c. joined (freed_at at x (cond c (block kind n ∷ []) (block kind k ∷ block Free (n - k) ∷ []) ++ b)) ≡ joined (block Free n ∷ b)) [
-      | true ↦ ap (λ c. joined (cond c (block Free n) (block kind n) ∷ freed_at (at + n) x b)) (eq-eqb at x same) ∙ ap (λ b. joined (block Free n ∷ b)) (freed_at-above (at + n) x b (omega arith))
-      | false ↦ ap (λ c. joined (cond c (block Free k) (block kind k) ∷ freed_at (at + k) x (block Free (n - k) ∷ b))) (eq-eqb at x same) ∙ ap (λ e. joined (block Free k ∷ e ∷ freed_at (at + k + (n - k)) x b)) (free_either ((at + k) == x) (n - k))
-          ∙ ap (λ b. joined (block Free k ∷ block Free (n - k) ∷ b)) (freed_at-above (at + k + (n - k)) x b (omega arith)) ∙ joined-two k (n - k) b ∙ ap (λ n. joined (block Free n ∷ b)) (let e : k + (n - k) ≡ n = omega arith in e)
-    ]
+joined-freed_taken s k n x at kind b same some fits = grind (arith, eq-eqb, free_either, freed_at-above, joined-two)
 
 taken_head : (s : Shape) (k n : ℕ) (b : ZoneMap) (at : ℕ) → Contains (addresses_from at is_master (taken s k Master n ++ b)) at
 taken_head s k n b at = elim (nat_lt (n - k) (smallest_block s.heads)) as (λ c. Contains (addresses_from at is_master (cond c (block Master n ∷ []) (block Master k ∷ block Free (n - k) ∷ []) ++ b)) at) [

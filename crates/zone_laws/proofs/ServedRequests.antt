@@ -80,9 +80,7 @@ serve-NumberGiven s t slot m (Replace y n) x new suits asks h = tt
 
 -- the slot that the next new handle takes, where one is free, is not live
 pub front_slot-not_live : (s : Shape) (heap : Heap) → Sound s heap → 0 < length heap.free_slots → live_at heap.table (front_slot heap) ≡ None
-front_slot-not_live s heap sound some =
-    let free = (sound.slots.free (front_slot heap)).0 (Contains-get_or heap.free_slots 0 0 some) in
-    not_live heap.table (front_slot heap) free.1 (slot-no_pointer s heap.table heap.map (front_slot heap) sound.suits free.0)
+front_slot-not_live s heap sound some = grind (arith, Contains-get_or, not_live, slot-no_pointer)
 
 -- A request that is served exactly is served, where the new map suits the new table.
 pub serve-Served : (s : Shape) (heap : Heap) (slot : ℕ) (r : Request) (x : ℕ) (new : ZoneMap) → Suits s heap.table heap.map → MayAsk heap.table slot r → serve s heap.table slot heap.map r ≡ Some (x, new)

@@ -1,5 +1,5 @@
 -- Every handle and pointer shows the bytes last put there: over one call.
-use Rattle.std.proofs.Common.{◌≡◌, ℕ, ◌+◌, true, false, cond, eqb, length, take, drop, List, [], ◌∷◌, ◌++◌, Option, Some, None, Ok, Err, MatchOption, refl, ap, sym, subst, ◌∙◌}
+use Rattle.std.proofs.Common.{arith, ◌≡◌, ℕ, ◌+◌, true, false, cond, eqb, length, take, drop, List, [], ◌∷◌, ◌++◌, Option, Some, None, Ok, Err, MatchOption, refl, ap, sym, subst, ◌∙◌}
 use Rattle.std.specs.Prelude.{◌||◌, ⊤}
 use Rattle.std.proofs.lemmas.Bool.{true≢false}
 use Rattle.mac_base.specs.declared.block.Flags.{Flags}
@@ -60,10 +60,7 @@ shows-put x l bytes old t new last others holds is shows =
 
 -- what has a block is refilled with these bytes
 pub refilled-holds : (bytes : List ℕ) (o : Option Live) → block_live (Some (refilled bytes o)) ≡ true → live_bytes (Some (refilled bytes o)) ≡ bytes
-refilled-holds bytes None h = absurd (cc h)
-refilled-holds bytes (Some EmptyHandle) h = absurd (cc h)
-refilled-holds bytes (Some (FullHandle flags old)) h = refl
-refilled-holds bytes (Some (Pointer old)) h = refl
+refilled-holds bytes v1 h = grind arith
 
 shows-bytes : (x : ℕ) (bytes want : List ℕ) (old t new : HandleTable) (last : LastPut) → Others x old t → bytes ≡ want → new ≡ with_bytes x bytes t → TableShows old last → TableShows new (put x want last)
 shows-bytes x bytes want old t new last others same is shows =

@@ -1,15 +1,14 @@
 -- Where a map suits its table, no slot is a pointer, and no free block's contents begin where a live block's do.
-use Rattle.std.proofs.Common.{◌≡◌, ℕ, ◌+◌, ◌*◌, ◌≤◌, ◌%◌, ◌==◌, true, false, ◌&&◌, nat_le, nat_lt, cond, List, [], ◌∷◌, ◌++◌, map, refl, ap, sym, ◌∙◌, arith, IsTrue, Contains, subst}
+use Rattle.std.proofs.Common.{◌≡◌, ℕ, ◌+◌, ◌*◌, ◌≤◌, true, false, cond, List, [], ◌∷◌, ◌++◌, map, refl, ap, sym, ◌∙◌, arith, IsTrue, Contains, subst}
 use Rattle.std.specs.List.{list_all}
 use Rattle.std.proofs.lemmas.List.Elements.{Contains-append_right}
-use Rattle.std.proofs.lemmas.Bool.Decides.{nat_tests}
 use Rattle.std.proofs.lemmas.Bool.{false_from_ne_true, and_parts, and_from}
 use Rattle.mac_base.specs.declared.block.Entry.{Entry}
 use Rattle.mac_base.specs.declared.block.HeadKind.{HeadKind}
 use Rattle.mac_base.specs.declared.block.HeadKind.TheVariants.{Bits24, Bits32}
 use Rattle.mac_base.specs.declared.block.Kind.{Kind}
-use Rattle.mac_base.specs.declared.block.Kind.TheVariants.{Free, Master, Ptr, Rel}
-use Rattle.mac_base.specs.HeadKind.{Shape, need, head_size, smallest_block, slot_count, master_length}
+use Rattle.mac_base.specs.declared.block.Kind.TheVariants.{Free}
+use Rattle.mac_base.specs.HeadKind.{Shape, need, head_size, slot_count, master_length}
 use Rattle.mac_base.specs.ZoneMap.{ZoneMap, block, is_free, is_master, total_size, address_after, addresses, addresses_from}
 use Rattle.mac_base.specs.HandleTable.{HandleTable, is_pointer, is_handle}
 use Rattle.mac_base.specs.Suits.{Suits, is_block_size, is_pointer_block, has_owners_length, slots}
@@ -22,20 +21,7 @@ large_master Bits32 = omega arith
 
 -- each block of a map that suits its table has room for its header, and a master block for its slots
 has_room-suits : (s : Shape) (t : HandleTable) (e : Entry) → is_block_size s e.size ≡ true → has_owners_length s t e ≡ true → has_room (head_size s.heads) slot_count e ≡ true
-has_room-suits s t e size long = by_kind e.kind e.size size long
-  where
-    by_size : (heads : HeadKind) (n : ℕ) → ((n % 4 == 0) && nat_le (smallest_block heads) n) ≡ true → nat_lt (head_size heads) n ≡ true
-    by_size Bits24 n h = grind (arith, nat_tests)
-    by_size Bits32 n h = grind (arith, nat_tests)
-
-    by_master : (head k n more : ℕ) → head + 4 * 64 ≤ k → (nat_le k n && nat_lt n more) ≡ true → nat_le (head + 4 * 64) n ≡ true
-    by_master head k n more large h = grind (arith, nat_tests)
-
-    by_kind : (kind : Kind) (n : ℕ) → is_block_size s n ≡ true → has_owners_length s t (block kind n) ≡ true → has_room (head_size s.heads) slot_count (block kind n) ≡ true
-    by_kind Free n size long = and_from _ true (by_size s.heads n size) refl
-    by_kind Master n size long = and_from _ _ (by_size s.heads n size) (by_master (head_size s.heads) (need s.heads master_length) n _ (large_master s.heads) long)
-    by_kind (Ptr p) n size long = and_from _ true (by_size s.heads n size) refl
-    by_kind (Rel h) n size long = and_from _ true (by_size s.heads n size) refl
+has_room-suits s t e size long = grind arith
 
 rooms_from : (s : Shape) (t : HandleTable) (m : ZoneMap) → IsTrue (list_all (λ (e : Entry). is_block_size s e.size) m) → IsTrue (list_all (has_owners_length s t) m) → list_all (has_room (head_size s.heads) slot_count) m ≡ true
 rooms_from s t [] sizes lengths = refl
@@ -54,22 +40,13 @@ address_from_contents f [] y h = absurd (cc h)
 address_from_contents f (x ∷ xs) y h = (x, Contains-here x xs, cc h)
 
 pub pointer_not_master : (p : ℕ) (kind : Kind) → is_pointer_block p kind ≡ true → is_master kind ≡ false
-pointer_not_master p Free h = refl
-pointer_not_master p Master h = absurd (cc h)
-pointer_not_master p (Ptr q) h = refl
-pointer_not_master p (Rel g) h = refl
+pointer_not_master p v1 h = grind arith
 
 pub pointer_not_free : (p : ℕ) (kind : Kind) → is_pointer_block p kind ≡ true → is_free kind ≡ false
-pointer_not_free p Free h = absurd (cc h)
-pointer_not_free p Master h = refl
-pointer_not_free p (Ptr q) h = refl
-pointer_not_free p (Rel g) h = refl
+pointer_not_free p v1 h = grind arith
 
 pub free_not_master : (kind : Kind) → is_free kind ≡ true → is_master kind ≡ false
-free_not_master Free h = refl
-free_not_master Master h = absurd (cc h)
-free_not_master (Ptr q) h = refl
-free_not_master (Rel g) h = refl
+free_not_master v0 h = grind arith
 
 -- no slot is a pointer
 pub slot_no_pointer : (s : Shape) (t : HandleTable) (m : ZoneMap) → Suits s t m → (h : ℕ) → Contains (slots s m) h → is_pointer t h ≡ false

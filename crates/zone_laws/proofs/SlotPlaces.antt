@@ -1,5 +1,5 @@
 -- Where slots lie: within the contents of master blocks, so no other block's contents begin at one.
-use Rattle.std.proofs.Common.{◌≡◌, ℕ, zero, suc, ◌+◌, ◌*◌, ◌<◌, ◌≤◌, Bool, true, false, not, ◌&&◌, ◌||◌, nat_le, nat_lt, cond, List, [], ◌∷◌, ◌++◌, length, map, flat_map, refl, arith, Contains, subst, ◌⊎◌, inl, inr, get_or}
+use Rattle.std.proofs.Common.{◌≡◌, ℕ, zero, suc, ◌+◌, ◌*◌, ◌<◌, ◌≤◌, Bool, true, false, not, ◌&&◌, ◌||◌, nat_le, nat_lt, cond, List, [], ◌∷◌, ◌++◌, map, flat_map, refl, arith, Contains, subst, ◌⊎◌, inl, inr}
 use Rattle.std.specs.List.{list_all}
 use Rattle.std.proofs.lemmas.Bool.Decides.{nat_tests}
 use Rattle.std.proofs.lemmas.List.Elements.{Contains-append_cases}
@@ -11,11 +11,7 @@ use Rattle.mac_base.specs.Suits.{slots_from}
 
 -- an element is the first one or among the others
 pub Contains-cons_cases : (x : ℕ) (xs : List ℕ) (y : ℕ) → Contains (x ∷ xs) y → (x ≡ y) ⊎ Contains xs y
-Contains-cons_cases x xs y c = by_place c.0 c.1 c.2
-  where
-    by_place : (k : ℕ) → k < length (x ∷ xs) → get_or (x ∷ xs) k y ≡ y → (x ≡ y) ⊎ Contains xs y
-    by_place zero below is = inl is
-    by_place (suc k) below is = inr (k, omega arith, is)
+Contains-cons_cases x xs y c = grind arith
 
 -- the first element is there
 pub Contains-here : (x : ℕ) (xs : List ℕ) → Contains (x ∷ xs) x
@@ -48,11 +44,7 @@ abbrev pub slots_at : ℕ → ℕ → ℕ → ZoneMap → List ℕ
 slots_at head n at m = flat_map (slots_from n) (map (λ a. a + head) (addresses_from at is_master m))
 
 pub slots_at-cons : (head n at : ℕ) (e : Entry) (es : ZoneMap) → slots_at head n at (e ∷ es) ≡ cond (is_master e.kind) (slots_from n (at + head)) [] ++ slots_at head n (at + e.size) es
-slots_at-cons head n at e es = by_test (is_master e.kind)
-  where
-    by_test : (b : Bool) → flat_map (slots_from n) (map (λ a. a + head) (cond b (at ∷ []) [] ++ addresses_from (at + e.size) is_master es)) ≡ cond b (slots_from n (at + head)) [] ++ slots_at head n (at + e.size) es
-    by_test true = refl
-    by_test false = refl
+slots_at-cons head n at e es = grind arith
 
 -- whether each block is larger than a header, and each master block has room for n slots
 abbrev pub has_room : ℕ → ℕ → Entry → Bool

@@ -1,8 +1,8 @@
 -- A sound heap stays sound over the calls that exist first.
-use Rattle.std.proofs.Common.{◌≡◌, ℕ, ◌+◌, ◌≤◌, Bool, true, false, ◌||◌, List, [], ◌∷◌, ◌++◌, length, take, drop, None, refl, ap, ◌∙◌, arith, length-append, length-take, length-drop}
+use Rattle.std.proofs.Common.{◌≡◌, ℕ, ◌+◌, ◌≤◌, true, List, [], ◌∷◌, ◌++◌, length, take, drop, None, ap, ◌∙◌, arith, length-append, length-take, length-drop}
 use Rattle.mac_base.specs.HeadKind.{Shape}
 use Rattle.mac_base.specs.declared.block.Flags.{Flags}
-use Rattle.mac_base.specs.HandleTable.{bytes_of, with_bytes, with_flags, is_full, is_pointer}
+use Rattle.mac_base.specs.HandleTable.{bytes_of, with_bytes, with_flags, is_full}
 use Rattle.mac_base.specs.Heap.{Heap, with_table}
 use Rattle.mac_base.specs.Sound.{Sound}
 use Rattle.mac_base.specs.Tests.{Test, IsHandle, IsBlock, NotEmpty, NotLent, IsWithin, first_refusal, refusal}
@@ -14,8 +14,7 @@ use Rattle.mac_base.specs.ZoneState.{written}
 use Rattle.zone_laws.proofs.SoundReleased.{sound-disposed}
 use Rattle.zone_laws.proofs.SoundCarried.{sound-carried}
 use Rattle.zone_laws.proofs.SoundWritten.{sound-written, sound-flags}
-use Rattle.zone_laws.proofs.Tables.{handle_no_pointer}
-use Rattle.zone_laws.proofs.Refusals.{first_passed, passed-DisposeHandle, passed-IsHandle, passed-IsWithin, passed-NotEmpty, passed-Poke}
+use Rattle.zone_laws.proofs.Refusals.{first_passed, passed-DisposeHandle, passed-IsWithin, passed-NotEmpty, passed-Poke}
 
 -- bytes written within others leave as many
 pub length-written : (at : ℕ) (bytes old : List ℕ) → at + length bytes ≤ length old → length (written at bytes old) ≡ length old
@@ -37,14 +36,7 @@ sound-Poke s heap x at bytes sound is =
 
 -- a handle that passes as live and not empty has a block
 pub passed-full : (s : Shape) (heap : Heap) (h : ℕ) (tests : List Test) → first_refusal s heap (IsHandle h ∷ NotEmpty h ∷ tests) ≡ None → is_full heap.table h ≡ true
-passed-full s heap h tests is =
-    let first = first_passed s heap (IsHandle h) (NotEmpty h ∷ tests) is in
-    let second = first_passed s heap (NotEmpty h) tests first.1 in
-    not_other (is_full heap.table h) (is_pointer heap.table h) (passed-NotEmpty s heap h second.0) (handle_no_pointer heap.table h (passed-IsHandle s heap h first.0).1)
-  where
-    not_other : (a b : Bool) → (a || b) ≡ true → b ≡ false → a ≡ true
-    not_other true b h is = refl
-    not_other false b h is = absurd (cc (h, is))
+passed-full s heap h tests is = grind arith
 
 -- flags are set: HLock, HUnlock, HPurge, HNoPurge, HSetRBit, HClrRBit, HSetState and HLockHi all begin with the tests
 -- of a live handle that isn't empty

@@ -41,10 +41,7 @@ addresses-at_limit s test m free =
 
 -- the zone is as large as its limit allows
 pub total_size-at_limit : (s : Shape) (m : ZoneMap) → zone_header + total_size m ≤ s.limit → zone_header + total_size (at_limit s m) ≡ s.limit
-total_size-at_limit s m within =
-    let more = s.limit - (zone_header + total_size m) in
-    let all = total_size-joined (m ++ free_block more) ∙ total_size-append m (free_block more) ∙ ap (λ n. total_size m + n) (total_size-free_block more) in
-    omega (arith, all)
+total_size-at_limit s m within = grind (arith, total_size-append, total_size-free_block, total_size-joined)
 
 list_all-at_limit : (p : Entry → Bool) (m : ZoneMap) (n : ℕ) → list_all p m ≡ true → (eqb n 0 ≡ false → p (block Free n) ≡ true) → list_all p (m ++ free_block n) ≡ true
 list_all-at_limit p m n h free = list_all-append p m (free_block n) ∙ and_from (list_all p m) _ h (by_free (λ m. list_all p m ≡ true) n (λ _. refl) (λ some. and_from (p (block Free n)) true (free some) refl))

@@ -9,7 +9,7 @@ use Rattle.std.proofs.lemmas.List.Folds.{list_all-append}
 use Rattle.std.proofs.lemmas.Grind.{flat_map-append}
 use Rattle.mac_base.specs.declared.block.Kind.TheVariants.{Free, Master}
 use Rattle.mac_base.specs.HeadKind.{Shape, need, head_size, slot_count, master_length, zone_header}
-use Rattle.mac_base.specs.ZoneMap.{ZoneMap, block, is_master, total_size, address_after, addresses_from}
+use Rattle.mac_base.specs.ZoneMap.{ZoneMap, block, is_master, total_size, address_after}
 use Rattle.mac_base.specs.HandleTable.{is_handle}
 use Rattle.mac_base.specs.Suits.{Suits, has_owners_length, is_handle_block, is_pointer_block, slots, slots_from}
 use Rattle.mac_base.specs.declared.request.Request.TheVariants.{NewMaster}
@@ -28,10 +28,7 @@ use Rattle.zone_laws.proofs.FreshNumbers.{need-above}
 
 -- the slots of two parts of a map
 slots_at-append : (head n at : ℕ) (a b : ZoneMap) → slots_at head n at (a ++ b) ≡ slots_at head n at a ++ slots_at head n (at + total_size a) b
-slots_at-append head n at a b =
-    ap (λ ats. flat_map (slots_from n) (map (λ a. a + head) ats)) (addresses_from-append at is_master a b)
-    ∙ ap (flat_map (slots_from n)) (map-append (λ a. a + head) (addresses_from at is_master a) (addresses_from (at + total_size a) is_master b))
-    ∙ flat_map-append (slots_from n) (map (λ a. a + head) (addresses_from at is_master a)) (map (λ a. a + head) (addresses_from (at + total_size a) is_master b))
+slots_at-append head n at a b = grind (arith, addresses_from-append, flat_map-append, map-append)
 
 -- slots in order, none of which is on a list, in front of it: each once
 slots-in_front : (n at : ℕ) (xs : List ℕ) → ((y : ℕ) → Contains (slots_from n at) y → Contains xs y → ⊥) → IsDistinct nat_eq xs → IsDistinct nat_eq (slots_from n at ++ xs)

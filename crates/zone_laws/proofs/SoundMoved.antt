@@ -1,6 +1,6 @@
 -- A sound heap stays sound where a block gets another size in a new place.
-use Rattle.std.proofs.Common.{◌≡◌, ℕ, true, false, cond, eqb, [], ◌∷◌, ◌++◌, length, refl, ap, sym, ◌∙◌, arith, subst}
-use Rattle.std.specs.Prelude.{◌||◌, ◌&&◌}
+use Rattle.std.proofs.Common.{◌≡◌, ℕ, true, false, eqb, [], ◌∷◌, ◌++◌, length, refl, ap, sym, ◌∙◌, arith, subst}
+use Rattle.std.specs.Prelude.{◌||◌}
 use Rattle.std.proofs.lemmas.Bool.{and_parts}
 use Rattle.std.proofs.lemmas.Bool.Decides.{nat_tests}
 use Rattle.std.proofs.lemmas.List.Folds.{list_all-append}
@@ -36,10 +36,7 @@ use Rattle.zone_laws.proofs.SoundTaken.{sound-kept, no_block, Suits-no_block}
 -- freeing leaves each size possible
 sizes_possible-marked : (s : Shape) (x : ℕ) (m : ZoneMap) → sizes_possible s (marked x m) ≡ sizes_possible s m
 sizes_possible-marked s x [] = refl
-sizes_possible-marked s x (e ∷ es) = elim (is_named x e.kind) as (λ c. sizes_possible s (cond c (block Free e.size) e ∷ marked x es) ≡ (is_block_size s e.size && sizes_possible s es)) [
-  | true ↦ ap (λ b. is_block_size s e.size && b) (sizes_possible-marked s x es)
-  | false ↦ ap (λ b. is_block_size s e.size && b) (sizes_possible-marked s x es)
-]
+sizes_possible-marked s x (e ∷ es) = grind (arith, sizes_possible-marked s x es, marked, sizes_possible)
 
 -- The heap's map may have been rearranged. A block of n bytes is taken there under the number nil, the old one is
 -- released, and the new one named.

@@ -1,5 +1,5 @@
 -- Whatever an attempt serves is a sound heap again, and what is lent stays fixed in it.
-use Rattle.std.proofs.Common.{◌≡◌, ℕ, ◌+◌, ◌<◌, Bool, true, false, List, [], ◌∷◌, length, Some, None, Option, refl, ap, sym, ◌∙◌, subst, arith, inl, inr}
+use Rattle.std.proofs.Common.{◌≡◌, ℕ, ◌+◌, ◌<◌, true, false, List, [], ◌∷◌, length, Some, None, Option, refl, ap, sym, ◌∙◌, subst, arith, inl, inr}
 use Rattle.std.specs.Prelude.{◌||◌, ⊤, slice_index}
 use Rattle.std.proofs.lemmas.Bool.{true≢false}
 use Rattle.mac_base.specs.declared.block.Kind.{Kind}
@@ -63,12 +63,7 @@ front heap some = by_slots heap.free_slots refl some
 
 -- a handle with a block, or a pointer, that may move is a handle
 pub moves-full : (t : HandleTable) (x : ℕ) → (is_full t x || is_pointer t x) ≡ true → stays t x ≡ false → (is_full t x ≡ true) × (is_pointer t x ≡ false)
-moves-full t x = by_tests (is_full t x) (is_pointer t x) (is_locked t x)
-  where
-    by_tests : (full pointer locked : Bool) → (full || pointer) ≡ true → (pointer || locked) ≡ false → (full ≡ true) × (pointer ≡ false)
-    by_tests full true locked h moves = absurd (cc moves)
-    by_tests true false locked h moves = (refl, refl)
-    by_tests false false locked h moves = absurd (cc h)
+moves-full t x = grind arith
 
 -- a block of a kind placed at the start of a cleared gap
 pub record PlacedThere (s : Shape) (k : ℕ) (kind : ℕ → Kind) (heap : Heap) (x : ℕ) (new : ZoneMap) : Type 0 where
@@ -131,10 +126,7 @@ sound-serve s (Replace y n) heap x m sound live h =
 
 -- what an attempt served, in its parts
 pub attempted-parts : (s : Shape) (r : Request) (heap : Heap) (x : ℕ) (new : Heap) → attempted s r heap ≡ Some (x, new) → (m : ZoneMap) × (serve s heap.table (front_slot heap) heap.map r ≡ Some (x, m)) × (granted r x m heap ≡ new)
-attempted-parts s r heap x new h =
-    let found = option_map-Some (λ (found : ℕ × ZoneMap). (found.0, granted r found.0 found.1 heap)) (serve s heap.table (front_slot heap) heap.map r) (x, new) h in
-    let number : found.0.0 ≡ x = ap (λ p. p.0) found.2 in
-    (found.0.1, found.1 ∙ ap (λ y. Some (y, found.0.1)) number, ap (λ y. granted r y found.0.1 heap) (sym number) ∙ ap (λ p. p.1) found.2)
+attempted-parts s r heap x new h = grind arith
 
 -- whatever an attempt serves is a sound heap again
 pub sound-attempted : (s : Shape) (r : Request) (heap : Heap) (x : ℕ) (new : Heap) → Sound s heap → MayServe heap r → attempted s r heap ≡ Some (x, new) → Sound s new
@@ -158,10 +150,7 @@ new-not_lent heap x fixed none lent = true≢false (sym (fixed-block heap.table 
 
 -- a block of another size is fixed as it was
 refilled-fixed : (bytes : List ℕ) (o : Option Live) → (live_pointer o || (live_flags o).lock) ≡ true → (live_pointer (Some (refilled bytes o)) || (live_flags (Some (refilled bytes o))).lock) ≡ true
-refilled-fixed bytes None h = absurd (cc h)
-refilled-fixed bytes (Some EmptyHandle) h = absurd (cc h)
-refilled-fixed bytes (Some (FullHandle flags old)) h = h
-refilled-fixed bytes (Some (Pointer old)) h = h
+refilled-fixed bytes v1 h = grind arith
 
 -- what is lent is fixed in the heap in which it is served
 pub loans_fixed-granted : (s : Shape) (r : Request) (heap : Heap) (x : ℕ) (m : ZoneMap) → Sound s heap → MayServe heap r → LeavesLent heap r → LoansAreFixed heap → serve s heap.table (front_slot heap) heap.map r ≡ Some (x, m) → LoansAreFixed (granted r x m heap)

@@ -1,12 +1,11 @@
 -- A sound heap stays sound where only the table changes: bytes over as many bytes, other flags, an empty handle.
-use Rattle.std.proofs.Common.{◌≡◌, ℕ, true, false, ◌||◌, cond, List, [], ◌∷◌, length, Some, None, Option, refl, ap, sym, ◌∙◌, IsTrue, Contains}
+use Rattle.std.proofs.Common.{arith, ◌≡◌, ℕ, true, false, ◌||◌, cond, List, [], ◌∷◌, length, Some, None, Option, refl, ap, sym, ◌∙◌, IsTrue, Contains}
 use Rattle.std.specs.List.{list_all}
 use Rattle.std.specs.Ordering.{nat_cmp}
 use Rattle.std.specs.FinMap.{is_sorted}
 use Rattle.std.proofs.lemmas.Bool.{and_parts, and_from}
 use Rattle.mac_base.specs.declared.block.Flags.{Flags}
 use Rattle.mac_base.specs.declared.block.Kind.{Kind}
-use Rattle.mac_base.specs.declared.block.Kind.TheVariants.{Free, Master, Ptr, Rel}
 use Rattle.mac_base.specs.HeadKind.{Shape}
 use Rattle.mac_base.specs.ZoneMap.{ZoneMap, is_free}
 use Rattle.mac_base.specs.HandleTable.{HandleTable, Live, EmptyHandle, FullHandle, Pointer, live_at, live_bytes, live_full, live_handle, live_pointer, is_full, is_handle, is_pointer, bytes_of, with_live, with_bytes, with_flags, refilled}
@@ -24,10 +23,7 @@ pub record SameShape (old new : HandleTable) : Type 0 where
   pub long : (y : ℕ) → length (bytes_of new y) ≡ length (bytes_of old y)
 
 wanted_length-same : (t u : HandleTable) → SameShape t u → (kind : Kind) → wanted_length u kind ≡ wanted_length t kind
-wanted_length-same t u same Free = refl
-wanted_length-same t u same Master = refl
-wanted_length-same t u same (Ptr p) = same.long p
-wanted_length-same t u same (Rel h) = same.long h
+wanted_length-same t u same v3 = grind arith
 
 lengths-same : (s : Shape) (t u : HandleTable) → SameShape t u → (m : ZoneMap) → IsTrue (list_all (has_owners_length s t) m) → IsTrue (list_all (has_owners_length s u) m)
 lengths-same s t u same [] h = refl

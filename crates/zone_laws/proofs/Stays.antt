@@ -1,6 +1,6 @@
 -- What is locked keeps its block where it is while a heap grows, is purged or releases blocks, and while requests are
 -- served.
-use Rattle.std.proofs.Common.{◌≡◌, ℕ, Bool, true, false, cond, eqb, List, [], ◌∷◌, Option, Some, None, refl, ap, sym, ◌∙◌, inl, inr}
+use Rattle.std.proofs.Common.{arith, ◌≡◌, ℕ, Bool, true, false, cond, eqb, List, [], ◌∷◌, Option, Some, refl, ap, sym, ◌∙◌, inl, inr}
 use Rattle.std.specs.Prelude.{◌||◌, ◌⊎◌}
 use Rattle.std.proofs.lemmas.Bool.{true≢false, eqb-true}
 use Rattle.mac_base.specs.declared.block.Kind.{Kind}
@@ -89,10 +89,7 @@ stay-prepared s p heap = let mid : Heap = cond p.grows (grown s heap) heap in st
 
 -- a refilled block is as locked as it was
 refilled-locked : (bytes : List ℕ) (o : Option Live) → lock_live (Some (refilled bytes o)) ≡ true → lock_live o ≡ true
-refilled-locked bytes None h = absurd (cc h)
-refilled-locked bytes (Some EmptyHandle) h = absurd (cc h)
-refilled-locked bytes (Some (FullHandle flags old)) h = h
-refilled-locked bytes (Some (Pointer old)) h = absurd (cc h)
+refilled-locked bytes v1 h = grind arith
 
 pub written-locked : (x : ℕ) (bytes : List ℕ) (t : HandleTable) (h : ℕ) → is_locked (with_bytes x bytes t) h ≡ true → is_locked t h ≡ true
 written-locked x bytes t =

@@ -72,9 +72,7 @@ operand-handle heap (Replace h n) makes = absurd (cc makes)
 
 -- a slot is free where no master block is needed for a new handle
 pub slot-free : (makes : Bool) (xs : List ℕ) → (makes && has_none xs) ≡ false → makes ≡ true → 0 < length xs
-slot-free true [] h makes = absurd (cc h)
-slot-free true (x ∷ xs) h makes = omega arith
-slot-free false xs h makes = absurd (cc makes)
+slot-free v0 v1 h makes = grind arith
 
 -- a master block is needed only where a handle is made
 pub makes-first : (a b : Bool) → (a && b) ≡ true → a ≡ true

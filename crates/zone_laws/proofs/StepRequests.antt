@@ -1,8 +1,7 @@
 -- What a call that is not refused knows of its request, and what it copies once that was served.
 use Rattle.std.proofs.Common.{◌≡◌, ℕ, ◌+◌, ◌≤◌, true, List, [], ◌∷◌, ◌++◌, length, take, None, MatchOption, refl, ap, sym, ◌∙◌, arith, length-append, length-take}
 use Rattle.std.specs.Prelude.{◌||◌, ◌==◌, ⊤}
-use Rattle.std.proofs.lemmas.Bool.{or_left, or_right}
-use Rattle.std.proofs.lemmas.Bool.Decides.{nat_tests}
+use Rattle.std.proofs.lemmas.Bool.{or_right}
 use Rattle.mac_base.specs.HeadKind.{Shape}
 use Rattle.mac_base.specs.HandleTable.{bytes_of, is_full, is_handle, is_pointer, with_bytes}
 use Rattle.mac_base.specs.declared.error.OsErr.TheVariants.{MemPurErr}
@@ -35,10 +34,7 @@ pub record AsksSoundly (s : Shape) (heap : Heap) (call : MemoryCall) (r : Reques
 
 -- a number is among those that begin with it, and with it in the second place
 pub first_among : (x : ℕ) (xs : List ℕ) → is_among (x ∷ xs) x ≡ true
-first_among x xs = or_left (x == x) (is_among xs x) (same x)
-  where
-    same : (x : ℕ) → (x == x) ≡ true
-    same x = grind (arith, nat_tests)
+first_among x xs = grind arith
 
 pub second_among : (y x : ℕ) → is_among (y ∷ x ∷ []) x ≡ true
 second_among y x = or_right (y == x) (is_among (x ∷ []) x) (first_among x [])

@@ -2,7 +2,6 @@
 use Rattle.std.proofs.Common.{◌≡◌, ℕ, List, [], take, drop, Some, None, Ok, Err, refl, sym, subst}
 use Rattle.mac_base.specs.declared.error.OsErr.{OsErr}
 use Rattle.mac_base.specs.HeadKind.{Shape}
-use Rattle.mac_base.specs.ZoneMap.{address_after}
 use Rattle.mac_base.specs.HandleTable.{bytes_of, with_bytes}
 use Rattle.mac_base.specs.Heap.{Heap, with_table}
 use Rattle.mac_base.specs.Trial.{SameHeap}
@@ -13,9 +12,8 @@ use Rattle.mac_base.specs.declared.memory_call.ShowingCall.TheVariants.{Peek}
 use Rattle.mac_base.specs.Tests.{refusal}
 use Rattle.mac_base.specs.Effect.{request_of}
 use Rattle.mac_base.specs.ZoneState.{written}
-use Rattle.mac_base.specs.declared.reply.Results.TheVariants.{Nothing, Bytes, Blocks}
+use Rattle.mac_base.specs.declared.reply.Results.TheVariants.{Nothing, Bytes}
 use Rattle.mac_base.specs.Outcomes.{Outcome}
-use Rattle.mac_base.specs.BlockReport.{reports_from}
 use Rattle.mac_base.specs.MemoryStep.{RunRelation, StepBy, StepUnless, StepAsking, QuietStep}
 
 -- a heap is the same as itself

@@ -1,14 +1,14 @@
 -- Where a map suits a table: how many blocks a number names, and whether its block stays.
-use Rattle.std.proofs.Common.{◌≡◌, ℕ, ◌+◌, ◌≤◌, Bool, true, false, cond, [], ◌∷◌, ◌++◌, length, refl, ap, sym, ◌∙◌, subst, arith, Some, None, Option, length-append}
-use Rattle.std.specs.Prelude.{◌||◌, ◌==◌}
+use Rattle.std.proofs.Common.{◌≡◌, ℕ, ◌+◌, ◌≤◌, Bool, true, false, cond, [], ◌∷◌, ◌++◌, length, refl, ap, sym, ◌∙◌, subst, arith, length-append}
+use Rattle.std.specs.Prelude.{◌||◌}
 use Rattle.std.proofs.lemmas.List.{length-map}
 use Rattle.std.proofs.lemmas.Bool.{eqb-true, or_left}
 use Rattle.mac_base.specs.declared.block.Entry.{Entry}
 use Rattle.mac_base.specs.declared.block.Kind.{Kind}
 use Rattle.mac_base.specs.declared.block.Kind.TheVariants.{Free, Master, Ptr, Rel}
 use Rattle.mac_base.specs.HeadKind.{Shape}
-use Rattle.mac_base.specs.ZoneMap.{ZoneMap, block, is_named, sizes, addresses, address_after}
-use Rattle.mac_base.specs.HandleTable.{HandleTable, Live, EmptyHandle, FullHandle, Pointer, live_at, live_full, live_pointer, is_full, is_pointer, is_locked}
+use Rattle.mac_base.specs.ZoneMap.{ZoneMap, block, is_named, sizes, address_after}
+use Rattle.mac_base.specs.HandleTable.{HandleTable, is_full, is_pointer, is_locked}
 use Rattle.mac_base.specs.Suits.{Suits, is_handle_block, is_pointer_block}
 use Rattle.mac_base.specs.Gap.{is_fixed}
 use Rattle.mac_base.specs.Request.{stays}
@@ -18,14 +18,7 @@ use Rattle.zone_laws.proofs.NamedPlace.{At}
 -- the blocks of a number are those of its handle and those of its pointer
 pub length-sizes_named : (x : ℕ) (m : ZoneMap) → length (sizes (is_named x) m) ≡ length (sizes (is_handle_block x) m) + length (sizes (is_pointer_block x) m)
 length-sizes_named x [] = refl
-length-sizes_named x (e ∷ es) = by_kind e.kind (length-sizes_named x es)
-  where
-    by_kind : (k : Kind) → length (sizes (is_named x) es) ≡ length (sizes (is_handle_block x) es) + length (sizes (is_pointer_block x) es)
-        → length (cond (is_named x k) (e.size ∷ []) [] ++ sizes (is_named x) es) ≡ length (cond (is_handle_block x k) (e.size ∷ []) [] ++ sizes (is_handle_block x) es) + length (cond (is_pointer_block x k) (e.size ∷ []) [] ++ sizes (is_pointer_block x) es)
-    by_kind Free rest = rest
-    by_kind Master rest = rest
-    by_kind (Ptr p) rest = elim (p == x) as (λ c. length (cond c (e.size ∷ []) [] ++ sizes (is_named x) es) ≡ length (sizes (is_handle_block x) es) + length (cond c (e.size ∷ []) [] ++ sizes (is_pointer_block x) es)) [ true ↦ omega arith | false ↦ rest ]
-    by_kind (Rel g) rest = elim (g == x) as (λ c. length (cond c (e.size ∷ []) [] ++ sizes (is_named x) es) ≡ length (cond c (e.size ∷ []) [] ++ sizes (is_handle_block x) es) + length (sizes (is_pointer_block x) es)) [ true ↦ omega arith | false ↦ rest ]
+length-sizes_named x (e ∷ es) = grind (arith, length-sizes_named x es)
 
 -- how many blocks the handle x has
 pub length-handle_blocks : (s : Shape) (t : HandleTable) (m : ZoneMap) (x : ℕ) → Suits s t m → length (sizes (is_handle_block x) m) ≡ cond (is_full t x) 1 0
@@ -33,9 +26,7 @@ length-handle_blocks s t m x suits = sym (length-addresses_from (address_after s
 
 -- and how many the pointer x
 pub length-pointer_blocks : (s : Shape) (t : HandleTable) (m : ZoneMap) (x : ℕ) → Suits s t m → length (sizes (is_pointer_block x) m) ≡ cond (is_pointer t x) 1 0
-length-pointer_blocks s t m x suits =
-    sym (length-addresses_from (address_after s []) (is_pointer_block x) m) ∙ sym (length-map (addresses s (is_pointer_block x) m) _) ∙ ap length (suits.coherent.pointers x)
-    ∙ elim (is_pointer t x) as (λ c. length (cond c (x ∷ []) []) ≡ cond c 1 0) [ true ↦ refl | false ↦ refl ]
+length-pointer_blocks s t m x suits = grind (arith, length-addresses_from, length-map)
 
 -- how many blocks x names
 pub length-sizes_of : (s : Shape) (t : HandleTable) (m : ZoneMap) (x : ℕ) → Suits s t m → length (sizes (is_named x) m) ≡ cond (is_full t x) 1 0 + cond (is_pointer t x) 1 0
@@ -43,20 +34,11 @@ length-sizes_of s t m x suits = let all = length-sizes_named x m in let handles 
 
 -- a handle with a block is no pointer
 pub full-no_pointer : (t : HandleTable) (x : ℕ) → is_full t x ≡ true → is_pointer t x ≡ false
-full-no_pointer t x h = by_live (live_at t x) h
-  where
-    by_live : (l : Option Live) → live_full l ≡ true → live_pointer l ≡ false
-    by_live None h = refl
-    by_live (Some EmptyHandle) h = refl
-    by_live (Some (FullHandle flags bytes)) h = refl
-    by_live (Some (Pointer bytes)) h = absurd (cc h)
+full-no_pointer t x h = grind arith
 
 -- a handle with a block, and a pointer, names exactly one block
 pub named_once : (s : Shape) (t : HandleTable) (m : ZoneMap) (x : ℕ) → Suits s t m → (is_full t x || is_pointer t x) ≡ true → length (sizes (is_named x) m) ≡ 1
-named_once s t m x suits live = length-sizes_of s t m x suits ∙ elim (is_full t x) as (λ c. is_full t x ≡ c → (c || is_pointer t x) ≡ true → cond c 1 0 + cond (is_pointer t x) 1 0 ≡ 1) [
-  | true ↦ λ full _. ap (λ c. 1 + cond c 1 0) (full-no_pointer t x full)
-  | false ↦ λ not_full pointer. ap (λ c. 0 + cond c 1 0) pointer
-] refl live
+named_once s t m x suits live = grind (arith, full-no_pointer, length-sizes_of)
 
 some_there : (test : Kind → Bool) (a : ZoneMap) (e : Entry) (b : ZoneMap) → test e.kind ≡ true → 1 ≤ length (sizes test (a ++ e ∷ b))
 some_there test a e b h =

@@ -1,6 +1,6 @@
 -- Where a map suits a table, no block is of the number nil, and none of a number that isn't live.
-use Rattle.std.proofs.Common.{◌≡◌, ℕ, zero, suc, ◌+◌, ◌<◌, Bool, true, false, cond, List, [], ◌∷◌, ◌++◌, length, refl, ap, sym, ◌∙◌, inl, inr, arith, None, get_or}
-use Rattle.std.specs.Prelude.{◌⊎◌, Contains, map, flat_map, nat_lt}
+use Rattle.std.proofs.Common.{◌≡◌, ℕ, zero, suc, ◌+◌, ◌<◌, Bool, true, false, cond, List, [], ◌∷◌, length, refl, ap, sym, ◌∙◌, arith, None, get_or}
+use Rattle.std.specs.Prelude.{Contains, map, flat_map, nat_lt}
 use Rattle.std.specs.List.{list_all}
 use Rattle.std.proofs.lemmas.Bool.{and_from, and_parts, lt-ltb, ltb-true, true≢false, false≢true, cases_Bool, false_from_ne_true}
 use Rattle.std.proofs.lemmas.List.{nil_from_length}
@@ -26,10 +26,7 @@ positive-contains (n ∷ ns) x h c = let parts = and_parts (nat_lt 0 n) (all_pos
 
 positive-addresses : (at head : ℕ) (test : Kind → Bool) (m : ZoneMap) → 0 < at → all_positive (map (λ at. at + head) (addresses_from at test m)) ≡ true
 positive-addresses at head test [] h = refl
-positive-addresses at head test (e ∷ es) h = elim (test e.kind) as (λ c. all_positive (map (λ at. at + head) (cond c (at ∷ []) [] ++ addresses_from (at + e.size) test es)) ≡ true) [
-  | true ↦ and_from (nat_lt 0 (at + head)) (all_positive (map (λ at. at + head) (addresses_from (at + e.size) test es))) (lt-ltb 0 (at + head) (omega arith)) (positive-addresses (at + e.size) head test es (omega arith))
-  | false ↦ positive-addresses (at + e.size) head test es (omega arith)
-]
+positive-addresses at head test (e ∷ es) h = grind (arith, positive-addresses (at + e.size) head test es (omega arith), and_from, lt-ltb)
 
 positive-contents : (s : Shape) (test : Kind → Bool) (m : ZoneMap) → all_positive (contents_addresses s test m) ≡ true
 positive-contents s test m = positive-addresses (address_after s []) (head_size s.heads) test m (omega arith)
@@ -64,8 +61,4 @@ named_none-not_live s t m x suits none = named_none s t m x suits (ap live_full 
 
 -- and nil
 pub named_none-nil : (s : Shape) (t : HandleTable) (m : ZoneMap) → Suits s t m → sizes (is_named 0) m ≡ []
-named_none-nil s t m suits = named_none s t m 0 suits (no_full (cases_Bool (is_full t 0))) (nil-no_pointer s t m suits)
-  where
-    no_full : (is_full t 0 ≡ true) ⊎ (is_full t 0 ≡ false) → is_full t 0 ≡ false
-    no_full (inl full) = absurd (true≢false (sym (full_handle t 0 full) ∙ nil-no_handle s t m suits))
-    no_full (inr not_full) = not_full
+named_none-nil s t m suits = grind (arith, cases_Bool, full_handle, named_none, nil-no_handle, nil-no_pointer, true≢false)

@@ -1,12 +1,12 @@
 -- A map suits its table once the block that a number names is free, and the number has none.
-use Rattle.std.proofs.Common.{◌≡◌, ℕ, ◌+◌, Bool, true, false, cond, [], ◌∷◌, ◌++◌, length, map, refl, ap, sym, ◌∙◌, IsTrue, Contains, subst}
+use Rattle.std.proofs.Common.{arith, ◌≡◌, ℕ, ◌+◌, Bool, true, false, cond, [], ◌∷◌, length, map, refl, ap, sym, ◌∙◌, IsTrue, Contains, subst}
 use Rattle.std.specs.List.{list_all}
 use Rattle.std.specs.Ordering.{nat_cmp}
 use Rattle.std.specs.FinMap.{is_sorted}
 use Rattle.std.proofs.lemmas.Bool.{false_from_ne_true, and_parts, and_from}
 use Rattle.mac_base.specs.declared.block.Entry.{Entry}
 use Rattle.mac_base.specs.declared.block.Kind.{Kind}
-use Rattle.mac_base.specs.declared.block.Kind.TheVariants.{Free, Master, Ptr, Rel}
+use Rattle.mac_base.specs.declared.block.Kind.TheVariants.{Free}
 use Rattle.mac_base.specs.HeadKind.{Shape}
 use Rattle.mac_base.specs.ZoneMap.{ZoneMap, block, is_master, is_named, total_size, address_after, addresses, addresses_from, contents_addresses, released}
 use Rattle.mac_base.specs.HandleTable.{HandleTable, live_full, live_handle, live_pointer, is_full, is_handle, is_pointer}
@@ -25,11 +25,7 @@ freed x m = map (λ (e : Entry). cond (is_named x e.kind) (block Free e.size) e)
 -- freeing keeps the sum of the sizes
 pub total_size-freed : (x : ℕ) (m : ZoneMap) → total_size (freed x m) ≡ total_size m
 total_size-freed x [] = refl
-total_size-freed x (e ∷ es) = by_test (is_named x e.kind) (total_size-freed x es)
-  where
-    by_test : (b : Bool) → total_size (freed x es) ≡ total_size es → total_size (cond b (block Free e.size) e ∷ freed x es) ≡ e.size + total_size es
-    by_test true rest = ap (λ n. e.size + n) rest
-    by_test false rest = ap (λ n. e.size + n) rest
+total_size-freed x (e ∷ es) = grind (arith, total_size-freed x es)
 
 -- releasing keeps the sum of the sizes
 pub total_size-released : (x : ℕ) (m : ZoneMap) → total_size (released x m) ≡ total_size m
@@ -38,21 +34,12 @@ total_size-released x m = total_size-joined (freed x m) ∙ total_size-freed x m
 -- what x doesn't name stays
 addresses_from-freed_others : (x at : ℕ) (test : Kind → Bool) → test Free ≡ false → ((kind : Kind) → test kind ≡ true → is_named x kind ≡ false) → (m : ZoneMap) → addresses_from at test (freed x m) ≡ addresses_from at test m
 addresses_from-freed_others x at test free others [] = refl
-addresses_from-freed_others x at test free others (e ∷ es) = by_test (is_named x e.kind) refl ∙ ap (λ found. cond (test e.kind) (at ∷ []) [] ++ found) (addresses_from-freed_others x (at + e.size) test free others es)
-  where
-    by_test : (b : Bool) → is_named x e.kind ≡ b → addresses_from at test (cond b (block Free e.size) e ∷ freed x es) ≡ cond (test e.kind) (at ∷ []) [] ++ addresses_from (at + e.size) test (freed x es)
-    by_test true is = addresses_from-skip at test (block Free e.size) (freed x es) free
-        ∙ sym (ap (λ b. cond b (at ∷ []) [] ++ addresses_from (at + e.size) test (freed x es)) (false_from_ne_true (test e.kind) (λ h. cc (others e.kind h, is))))
-    by_test false is = refl
+addresses_from-freed_others x at test free others (e ∷ es) = grind (arith, addresses_from-freed_others x (at + e.size) test free others es, addresses_from-skip, false_from_ne_true)
 
 -- and what it names is gone
 addresses_from-freed_same : (x at : ℕ) (test : Kind → Bool) → test Free ≡ false → ((kind : Kind) → test kind ≡ true → is_named x kind ≡ true) → (m : ZoneMap) → addresses_from at test (freed x m) ≡ []
 addresses_from-freed_same x at test free named [] = refl
-addresses_from-freed_same x at test free named (e ∷ es) = by_test (is_named x e.kind) refl ∙ addresses_from-freed_same x (at + e.size) test free named es
-  where
-    by_test : (b : Bool) → is_named x e.kind ≡ b → addresses_from at test (cond b (block Free e.size) e ∷ freed x es) ≡ addresses_from (at + e.size) test (freed x es)
-    by_test true is = addresses_from-skip at test (block Free e.size) (freed x es) free
-    by_test false is = addresses_from-skip at test e (freed x es) (false_from_ne_true (test e.kind) (λ h. cc (named e.kind h, is)))
+addresses_from-freed_same x at test free named (e ∷ es) = grind (arith, addresses_from-freed_same x (at + e.size) test free named es, addresses_from-skip, false_from_ne_true)
 
 sizes-freed : (s : Shape) (x : ℕ) (m : ZoneMap) → IsTrue (list_all (λ (e : Entry). is_block_size s e.size) m) → IsTrue (list_all (λ (e : Entry). is_block_size s e.size) (freed x m))
 sizes-freed s x [] h = refl
@@ -83,10 +70,7 @@ pub addresses-released_same : (s : Shape) (x : ℕ) (test : Kind → Bool) (m : 
 addresses-released_same s x test m free named = addresses_from-joined (address_after s []) test (freed x m) free ∙ addresses_from-freed_same x (address_after s []) test free named m
 
 master_unnamed : (x : ℕ) (kind : Kind) → is_master kind ≡ true → is_named x kind ≡ false
-master_unnamed x Free h = refl
-master_unnamed x Master h = refl
-master_unnamed x (Ptr p) h = absurd (cc h)
-master_unnamed x (Rel g) h = absurd (cc h)
+master_unnamed x v1 h = grind arith
 
 -- the slots stay
 pub slots-released : (s : Shape) (x : ℕ) (m : ZoneMap) → slots s (released x m) ≡ slots s m

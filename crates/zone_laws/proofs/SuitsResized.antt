@@ -1,15 +1,15 @@
 -- A map suits its table once a block has another size in place, and its owner the bytes for it.
-use Rattle.std.proofs.Common.{◌≡◌, ℕ, ◌+◌, ◌%◌, ◌==◌, Bool, true, false, not, ◌&&◌, ◌||◌, nat_le, cond, eqb, List, [], ◌∷◌, ◌++◌, length, map, length-append, refl, ap, sym, ◌∙◌, arith, IsTrue, Contains, subst, ◌⊎◌, inl, inr}
+use Rattle.std.proofs.Common.{◌≡◌, ℕ, ◌+◌, ◌%◌, ◌==◌, Bool, true, false, not, ◌&&◌, ◌||◌, nat_le, cond, List, [], ◌∷◌, ◌++◌, length, map, length-append, refl, ap, sym, ◌∙◌, arith, IsTrue, Contains, subst, ◌⊎◌, inl, inr}
 use Rattle.std.specs.List.{list_all}
 use Rattle.std.specs.Ordering.{nat_cmp}
 use Rattle.std.specs.FinMap.{is_sorted}
 use Rattle.std.proofs.lemmas.List.Folds.{list_all-append}
 use Rattle.std.proofs.lemmas.Bool.Decides.{nat_tests}
-use Rattle.std.proofs.lemmas.Bool.{and_parts, not_from_false, and_from, eqb-true}
+use Rattle.std.proofs.lemmas.Bool.{and_parts, not_from_false, and_from}
 use Rattle.std.proofs.lemmas.List.{nil_from_length}
 use Rattle.mac_base.specs.declared.block.Entry.{Entry}
 use Rattle.mac_base.specs.declared.block.Kind.{Kind}
-use Rattle.mac_base.specs.declared.block.Kind.TheVariants.{Free, Master, Ptr, Rel}
+use Rattle.mac_base.specs.declared.block.Kind.TheVariants.{Free}
 use Rattle.mac_base.specs.HeadKind.{Shape, need, head_size, smallest_block}
 use Rattle.mac_base.specs.ZoneMap.{ZoneMap, block, is_free, is_master, is_named, total_size, address_after, addresses, addresses_from, joined}
 use Rattle.mac_base.specs.HandleTable.{HandleTable, bytes_of, is_full, is_handle, is_pointer}
@@ -30,17 +30,7 @@ use Rattle.zone_laws.proofs.JoinedBlocks.{total_size-joined, addresses_from-join
 -- as many as it has as a handle and as a pointer
 count_named : (at x : ℕ) (m : ZoneMap) → length (addresses_from at (is_named x) m) ≡ length (addresses_from at (is_handle_block x) m) + length (addresses_from at (is_pointer_block x) m)
 count_named at x [] = refl
-count_named at x (e ∷ es) = by_kind e.kind (count_named (at + e.size) x es)
-  where
-    by_kind : (kind : Kind) → length (addresses_from (at + e.size) (is_named x) es) ≡ length (addresses_from (at + e.size) (is_handle_block x) es) + length (addresses_from (at + e.size) (is_pointer_block x) es)
-        → length (cond (is_named x kind) (at ∷ []) [] ++ addresses_from (at + e.size) (is_named x) es)
-        ≡ length (cond (is_handle_block x kind) (at ∷ []) [] ++ addresses_from (at + e.size) (is_handle_block x) es) + length (cond (is_pointer_block x kind) (at ∷ []) [] ++ addresses_from (at + e.size) (is_pointer_block x) es)
-    by_kind Free rest = rest
-    by_kind Master rest = rest
-    by_kind (Ptr q) rest = elim (eqb q x) as (λ b. length (cond b (at ∷ []) [] ++ addresses_from (at + e.size) (is_named x) es)
-        ≡ length (addresses_from (at + e.size) (is_handle_block x) es) + length (cond b (at ∷ []) [] ++ addresses_from (at + e.size) (is_pointer_block x) es)) [ true ↦ omega arith | false ↦ rest ]
-    by_kind (Rel g) rest = elim (eqb g x) as (λ b. length (cond b (at ∷ []) [] ++ addresses_from (at + e.size) (is_named x) es)
-        ≡ length (cond b (at ∷ []) [] ++ addresses_from (at + e.size) (is_handle_block x) es) + length (addresses_from (at + e.size) (is_pointer_block x) es)) [ true ↦ omega arith | false ↦ rest ]
+count_named at x (e ∷ es) = grind (arith, count_named (at + e.size) x es)
 
 pub length_of_map : (f : ℕ → ℕ) (xs : List ℕ) → length (map f xs) ≡ length xs
 length_of_map f [] = refl
@@ -69,10 +59,7 @@ none_named-empty at x (e ∷ es) h =
 
 -- its owner is x
 named_length : (x : ℕ) (t : HandleTable) (kind : Kind) → is_named x kind ≡ true → wanted_length t kind ≡ length (bytes_of t x)
-named_length x t Free h = absurd (cc h)
-named_length x t Master h = absurd (cc h)
-named_length x t (Ptr p) h = ap (λ y. length (bytes_of t y)) (eqb-true p x h)
-named_length x t (Rel g) h = ap (λ y. length (bytes_of t y)) (eqb-true g x h)
+named_length x t v2 h = grind arith
 
 pub free_only : (at : ℕ) (test : Kind → Bool) (m : ZoneMap) → test Free ≡ false → list_all (λ (e : Entry). is_free e.kind) m ≡ true → addresses_from at test m ≡ []
 free_only at test [] free h = refl

@@ -1,6 +1,6 @@
 -- A block put in a new place: the map suits the table in which its owner has it, where the map without it suits the
 -- table in which the owner has none.
-use Rattle.std.proofs.Common.{◌≡◌, ℕ, ◌+◌, ◌-◌, ◌<◌, ◌≤◌, Bool, true, false, not, cond, eqb, [], ◌∷◌, ◌++◌, length, refl, ap, sym, ◌∙◌, subst, arith, IsTrue, Contains}
+use Rattle.std.proofs.Common.{◌≡◌, ℕ, ◌+◌, ◌-◌, ◌<◌, ◌≤◌, Bool, true, false, cond, eqb, [], ◌∷◌, ◌++◌, length, refl, ap, sym, ◌∙◌, subst, arith, IsTrue, Contains}
 use Rattle.std.specs.Prelude.{◌&&◌, nat_le, nat_lt}
 use Rattle.std.specs.List.{list_all}
 use Rattle.std.specs.Ordering.{nat_cmp}
@@ -14,11 +14,11 @@ use Rattle.mac_base.specs.declared.block.Kind.TheVariants.{Free, Master, Ptr, Re
 use Rattle.mac_base.specs.HeadKind.{Shape, need, smallest_block}
 use Rattle.mac_base.specs.ZoneMap.{ZoneMap, block, is_free, is_named, is_kind, released, sizes, address_after, addresses, contents_addresses}
 use Rattle.mac_base.specs.HandleTable.{HandleTable, bytes_of, live_full, live_handle, live_pointer, is_full, is_handle, is_pointer}
-use Rattle.mac_base.specs.Suits.{Suits, free_apart, starts_free, is_block_size, is_handle_block, is_pointer_block, has_length, wanted_length, slots}
+use Rattle.mac_base.specs.Suits.{Suits, free_apart, starts_free, is_handle_block, is_pointer_block, has_length, wanted_length, slots}
 use Rattle.mac_base.specs.Serve.{taken, renamed}
 use Rattle.zone_laws.proofs.GapAppend.{length-addresses_from}
 use Rattle.zone_laws.proofs.GapApart.{sizes_possible}
-use Rattle.zone_laws.proofs.Arranging.{is_kind-free, named-used}
+use Rattle.zone_laws.proofs.Arranging.{is_kind-free}
 use Rattle.zone_laws.proofs.Tables.{AgreeBut, by_number}
 use Rattle.zone_laws.proofs.Owners.{other_handle, other_pointer, wanted_length-agree}
 use Rattle.zone_laws.proofs.Taken.{by_taken, head-below_smallest}
@@ -92,16 +92,10 @@ Suits-restored s x size u v new r =
 -- the sizes stay
 pub sizes_possible-renamed : (s : Shape) (z x : ℕ) (m : ZoneMap) → sizes_possible s (renamed z x m) ≡ sizes_possible s m
 sizes_possible-renamed s z x [] = refl
-sizes_possible-renamed s z x (e ∷ es) = elim (is_named z e.kind) as (λ c. sizes_possible s (cond c (block (Rel x) e.size) e ∷ renamed z x es) ≡ (is_block_size s e.size && sizes_possible s es)) [
-  | true ↦ ap (λ b. is_block_size s e.size && b) (sizes_possible-renamed s z x es)
-  | false ↦ ap (λ b. is_block_size s e.size && b) (sizes_possible-renamed s z x es)
-]
+sizes_possible-renamed s z x (e ∷ es) = grind (arith, sizes_possible-renamed s z x es, sizes_possible)
 
 free-renamed : (z x : ℕ) (e : Entry) → (let f : Entry = cond (is_named z e.kind) (block (Rel x) e.size) e in is_free f.kind) ≡ is_free e.kind
-free-renamed z x e = elim (is_named z e.kind) as (λ c. is_named z e.kind ≡ c → (let f : Entry = cond c (block (Rel x) e.size) e in is_free f.kind) ≡ is_free e.kind) [
-  | true ↦ λ named. sym (named-used z e.kind named)
-  | false ↦ λ _. refl
-] refl
+free-renamed z x e = grind arith
 
 starts_free-renamed : (z x : ℕ) (m : ZoneMap) → starts_free (renamed z x m) ≡ starts_free m
 starts_free-renamed z x [] = refl
@@ -110,10 +104,7 @@ starts_free-renamed z x (e ∷ es) = free-renamed z x e
 -- and free blocks that are apart stay so
 pub free_apart-renamed : (z x : ℕ) (m : ZoneMap) → free_apart (renamed z x m) ≡ free_apart m
 free_apart-renamed z x [] = refl
-free_apart-renamed z x (e ∷ es) =
-    ap (λ b. not (b && starts_free (renamed z x es)) && free_apart (renamed z x es)) (free-renamed z x e)
-    ∙ ap (λ b. not (is_free e.kind && b) && free_apart (renamed z x es)) (starts_free-renamed z x es)
-    ∙ ap (λ b. not (is_free e.kind && starts_free es) && b) (free_apart-renamed z x es)
+free_apart-renamed z x (e ∷ es) = grind (arith, free_apart-renamed z x es, free-renamed, starts_free-renamed)
 
 -- x, which named none, has the blocks of z
 pub sizes-renamed : (z x : ℕ) (m : ZoneMap) → sizes (is_named x) m ≡ [] → (sizes (is_kind (Rel x)) (renamed z x m) ≡ sizes (is_named z) m) × (sizes (is_kind (Ptr x)) (renamed z x m) ≡ [])

@@ -6,7 +6,7 @@ use Rattle.std.specs.Cmp.{nat_cmp_total}
 use Rattle.std.specs.FinMap.Entries.{find-put, find-where_key, is_sorted, is_sorted-put, is_sorted-where_key}
 use Rattle.std.proofs.lemmas.Bool.Decides.{nat_tests}
 use Rattle.std.proofs.lemmas.Bool.{eqb-true}
-use Rattle.mac_base.specs.HandleTable.{HandleTable, Live, EmptyHandle, FullHandle, Pointer, live_at, with_live, without, live_full, live_handle, live_pointer, is_full, is_handle, is_pointer}
+use Rattle.mac_base.specs.HandleTable.{HandleTable, Live, live_at, with_live, without, is_full, is_handle, is_pointer}
 
 -- the two tests of numbers are one
 same_test : (a b : ℕ) → eq_by_cmp nat_cmp b a ≡ eqb b a
@@ -76,40 +76,16 @@ by_number P x here others y = elim (eqb y x) as (λ b. eqb y x ≡ b → P y) [ 
 
 -- a number that is not live is neither handle nor pointer, and one that is neither is not live
 pub not_live : (t : HandleTable) (x : ℕ) → is_handle t x ≡ false → is_pointer t x ≡ false → live_at t x ≡ None
-not_live t x = by_case (live_at t x)
-  where
-    by_case : (o : Option Live) → live_handle o ≡ false → live_pointer o ≡ false → o ≡ None
-    by_case None h p = refl
-    by_case (Some EmptyHandle) h p = absurd (cc h)
-    by_case (Some (FullHandle flags bytes)) h p = absurd (cc h)
-    by_case (Some (Pointer bytes)) h p = absurd (cc p)
+not_live t x = grind arith
 
 -- a handle is no pointer
 pub handle_no_pointer : (t : HandleTable) (x : ℕ) → is_handle t x ≡ true → is_pointer t x ≡ false
-handle_no_pointer t x = by_case (live_at t x)
-  where
-    by_case : (o : Option Live) → live_handle o ≡ true → live_pointer o ≡ false
-    by_case None h = refl
-    by_case (Some EmptyHandle) h = refl
-    by_case (Some (FullHandle flags bytes)) h = refl
-    by_case (Some (Pointer bytes)) h = absurd (cc h)
+handle_no_pointer t x = grind arith
 
 -- a pointer is no handle
 pub pointer_no_handle : (t : HandleTable) (x : ℕ) → is_pointer t x ≡ true → (is_handle t x ≡ false) × (is_full t x ≡ false)
-pointer_no_handle t x = by_case (live_at t x)
-  where
-    by_case : (o : Option Live) → live_pointer o ≡ true → (live_handle o ≡ false) × (live_full o ≡ false)
-    by_case None h = (refl, refl)
-    by_case (Some EmptyHandle) h = absurd (cc h)
-    by_case (Some (FullHandle flags bytes)) h = absurd (cc h)
-    by_case (Some (Pointer bytes)) h = (refl, refl)
+pointer_no_handle t x = grind arith
 
 -- a handle with a block is a handle
 pub full_handle : (t : HandleTable) (x : ℕ) → is_full t x ≡ true → is_handle t x ≡ true
-full_handle t x = by_case (live_at t x)
-  where
-    by_case : (o : Option Live) → live_full o ≡ true → live_handle o ≡ true
-    by_case None h = absurd (cc h)
-    by_case (Some EmptyHandle) h = absurd (cc h)
-    by_case (Some (FullHandle flags bytes)) h = refl
-    by_case (Some (Pointer bytes)) h = absurd (cc h)
+full_handle t x = grind arith

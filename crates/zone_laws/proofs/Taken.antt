@@ -23,11 +23,7 @@ head-below_smallest Bits32 = omega arith
 
 -- the size that contents need is possible
 pub need-is_size : (s : Shape) (n : ℕ) → is_block_size s (need s.heads n) ≡ true
-need-is_size s n = by_heads s.heads
-  where
-    by_heads : (heads : HeadKind) → ((need heads n % 4 == 0) && nat_le (smallest_block heads) (need heads n)) ≡ true
-    by_heads Bits24 = grind (arith, nat_tests)
-    by_heads Bits32 = grind (arith, nat_tests)
+need-is_size s n = grind arith
 
 -- a map goes on apart after some blocks
 pub free_apart-after : (before m : ZoneMap) → IsTrue (free_apart (before ++ m)) → IsTrue (free_apart m)
@@ -39,10 +35,7 @@ starts_free-replaced [] m n h is = h is
 starts_free-replaced (e ∷ es) m n h is = is
 
 still_apart : (a b c : Bool) → (c ≡ true → b ≡ true) → not (a && b) ≡ true → not (a && c) ≡ true
-still_apart true true c h is = absurd (cc is)
-still_apart true false true h is = h refl
-still_apart true false false h is = refl
-still_apart false b c h is = refl
+still_apart v0 v1 v2 h is = grind arith
 
 -- what is after some blocks may be replaced by what is apart and starts free at most where it did
 pub free_apart-replaced : (before m n : ZoneMap) → (starts_free n ≡ true → starts_free m ≡ true) → IsTrue (free_apart n) → IsTrue (free_apart (before ++ m)) → IsTrue (free_apart (before ++ n))
@@ -91,10 +84,7 @@ sizes-taken s k kind n size is le = by_taken (λ m. IsTrue (list_all (λ (e : En
 
 -- a block that is taken has the length for which it was taken
 has_length-whole : (s : Shape) (n size : ℕ) → need s.heads n ≤ size → size - need s.heads n < smallest_block s.heads → has_length s size n ≡ true
-has_length-whole s n size le small = lengthy (need s.heads n) size (smallest_block s.heads) le small
-  where
-    lengthy : (k size small : ℕ) → k ≤ size → size - k < small → (nat_le k size && nat_lt size (k + small)) ≡ true
-    lengthy k size small a b = grind (arith, nat_tests)
+has_length-whole s n size le small = grind arith
 
 -- so has one of just the size that is needed
 has_length-exact : (s : Shape) (n : ℕ) → has_length s (need s.heads n) n ≡ true

@@ -74,10 +74,8 @@ first_left t at (e ∷ es) block found =
 
 -- one more block at the end
 reports_from-push : (t : HandleTable) (start : ℕ) (before : ZoneMap) (e : Entry) → reports_from t start (before ++ e ∷ []) ≡ reports_from t start before ++ report t (start + total_size before) e ∷ []
-reports_from-push t start [] e = ap (λ n. report t n e ∷ []) (omega arith)
-reports_from-push t start (f ∷ before) e =
-    ap (λ (rest : List Block). report t start f ∷ rest)
-    (reports_from-push t (start + f.size) before e ∙ ap (λ n. reports_from t (start + f.size) before ++ report t n e ∷ []) (add_assoc start f.size (total_size before)))
+reports_from-push t start [] e = grind arith
+reports_from-push t start (f ∷ before) e = grind (arith, reports_from-push t (start + f.size) before e)
 
 AllPositive-front : (a b : ZoneMap) → AllPositive (a ++ b) → AllPositive a
 unfolding AllPositive
@@ -102,10 +100,7 @@ sized s heap sound = AllPositive-sizes s heap.map sound.suits.sizes
 
 -- the block at the address is the first of those that are left
 report_at-left : (s : Shape) (heap : Heap) (at : ℕ) (blocks : List Block) (walk : HasWalked s heap at blocks) → Sound s heap → report_at s heap at ≡ find (λ (b : Block). b.address == at) (reports_from heap.table at walk.rest)
-report_at-left s heap at blocks walk sound =
-    let positive : AllPositive (walk.before ++ walk.rest) = let P : ZoneMap → Type 0 = λ m. AllPositive m in subst P walk.parts (sized s heap sound) in
-    ap (λ m. find (λ (b : Block). b.address == at) (reports_from heap.table (address_after s []) m)) walk.parts
-    ∙ find-after heap.table (address_after s []) at walk.before walk.rest (AllPositive-front walk.before walk.rest positive) (walk.here ∙ omega arith)
+report_at-left s heap at blocks walk sound = grind (arith, AllPositive, AllPositive-front, find-after, sized)
 
 -- where no block is at the address, these are all blocks
 pub HasWalked-end : (s : Shape) (heap : Heap) (at : ℕ) (blocks : List Block) → HasWalked s heap at blocks → Sound s heap → report_at s heap at ≡ None → blocks ≡ reports_from heap.table (address_after s []) heap.map

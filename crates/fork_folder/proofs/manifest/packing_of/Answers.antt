@@ -9,7 +9,8 @@ use Rattle.fork_folder.specs.Packed.{Listed, listed}
 use Rattle.fork_folder.specs.Paths.{IsInFolder}
 use Rattle.fork_folder.specs.declared.manifest.Resource.{Resource}
 use Rattle.fork_folder.specs.declared.rows.Entry.{Entry}
-use Rattle.fork_folder.proofs.Texts.{say_more}
+use Rattle.std.proofs.lemmas.Result.{err_from_is_err_and}
+use Rattle.fork_folder.proofs.Texts.{no_digits, say_more}
 use Rattle.fork_folder.proofs.manifest.packing_of.Goals as goal
 
 pub loop-resource-preserved : goal.loop-resource-preserved
@@ -30,3 +31,11 @@ returns-clause-says c =
     sym (map-id _) ∙ (YieldsList-end (YieldsList-from_vec c.args.manifest.resources.items (search rules) (search rules)) c.loop-resource.yielded _ c.loop-resource.yielded_by _ c.next.new.self c.in-None.is c.next.ensures.steps).0 in
     let P : List Resource → Type 0 = λ resources. AllSay resources (map listed c.loop-resource.entries.items) in
     record { extra = search rules; map_attributes = search rules; resources = subst P all c.loop-resource.invariant.3 }
+
+pub returns-in_default-clause-refused : goal.returns-in_default-clause-refused
+returns-in_default-clause-refused c = no_digits c.extra_of.result c.as_str.result.now _ c.extra_of.ensures.found (sym c.as_str.ensures.value) c.in_default.is
+
+pub returns-in_err-entry_of-clause-refused : goal.returns-in_err-entry_of-clause-refused
+returns-in_err-entry_of-clause-refused c =
+    let p = err_from_is_err_and c.from_residual.result c.from_residual.ensures.1 in
+    rw (p.1, p.2) (c.in_err-entry_of.ensures.refused c.args.manifest)

@@ -1,4 +1,4 @@
-use Rattle.std.proofs.Common.{ℕ, ◌+◌, List, map, take, subst, sym}
+use Rattle.std.proofs.Common.{◌+◌, List, map, take, subst, sym}
 use Rattle.fork_folder.specs.Manifest.{AllSay, Says}
 use Rattle.fork_folder.specs.PackedAgain.{entry_of}
 use Rattle.fork_folder.specs.Unpacked.{file_row, unpacked_file}

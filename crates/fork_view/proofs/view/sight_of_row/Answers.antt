@@ -3,4 +3,4 @@ use Rattle.fork_view.proofs.Reasons.{shows_none}
 use Rattle.fork_view.proofs.view.sight_of_row.Goals as goal
 
 pub returns-in-Some : goal.returns-in-Some
-returns-in-Some c = shows_none c.args.form c.args.row.now c.in-Some.why (sym c.in_ok-why.ensures ∙ c.in-Some.is)
+returns-in-Some c = shows_none c.args.form c.args.rows.now c.args.row.now c.in-Some.why (sym c.in_ok-why.ensures ∙ c.in-Some.is)

@@ -1,14 +1,15 @@
 use Rattle.std.proofs.Common.{[], refl, sym}
 use Rattle.std.proofs.lemmas.List.{append-nil}
 use Rattle.script_run.proofs.Agreeing.{runs-agree}
-use Rattle.script_run.proofs.Kept.{keeps-seen}
+use Rattle.script_run.proofs.Kept.{keeps-seen, keeps-seen-where}
 use Rattle.script_run.proofs.Known.{Gave-none}
 use Rattle.script_run.proofs.Noting.{noted-none}
 use Rattle.script_run.proofs.Recovered.{run-recovers}
 use Rattle.script_run.proofs.Shown.{run-shows}
 use Rattle.macheap.specs.Program.{Parts}
 use Rattle.macheap.proofs.Ending.{answered, was_refused}
-use Rattle.macheap.proofs.Restarting.{starts_where_left}
+use Rattle.macheap.specs.Restarting.{StartsOnDisk}
+use Rattle.macheap.proofs.Restarting.{starts_on}
 use Rattle.macheap.proofs.program.program.Goals as goal
 
 pub returns-in-Ok-clause-ends : goal.returns-in-Ok-clause-ends
@@ -55,17 +56,11 @@ pub returns-in-Err-clause-exact : goal.returns-in-Err-clause-exact
 returns-in-Err-clause-exact g c = (runs-agree g.S.ForkStore, runs-agree g.J.ForkStore)
 
 pub returns-in-Ok-clause-kept : goal.returns-in-Ok-clause-kept
-returns-in-Ok-clause-kept g c = (keeps-seen g.S.ForkStore, keeps-seen g.J.ForkStore)
+returns-in-Ok-clause-kept g c =
+    let parts : Parts g.row.F.Denot g.row.S.Denot g.row.J.Denot = record { files = g.O.Opens.asking; store = g.S.ForkStore; with_journal = g.J.ForkStore; plain = g.O.Opens.plain; pairs = g.O.Opens.pairs } in
+    (keeps-seen g.S.ForkStore, keeps-seen-where g.J.ForkStore (StartsOnDisk parts) (starts_on parts g.met.O.Opens.starts))
 
 pub returns-in-Err-clause-kept : goal.returns-in-Err-clause-kept
-returns-in-Err-clause-kept g c = (keeps-seen g.S.ForkStore, keeps-seen g.J.ForkStore)
-
-pub returns-in-Ok-clause-starts : goal.returns-in-Ok-clause-starts
-returns-in-Ok-clause-starts g c =
+returns-in-Err-clause-kept g c =
     let parts : Parts g.row.F.Denot g.row.S.Denot g.row.J.Denot = record { files = g.O.Opens.asking; store = g.S.ForkStore; with_journal = g.J.ForkStore; plain = g.O.Opens.plain; pairs = g.O.Opens.pairs } in
-    starts_where_left parts g.met.O.Opens.starts
-
-pub returns-in-Err-clause-starts : goal.returns-in-Err-clause-starts
-returns-in-Err-clause-starts g c =
-    let parts : Parts g.row.F.Denot g.row.S.Denot g.row.J.Denot = record { files = g.O.Opens.asking; store = g.S.ForkStore; with_journal = g.J.ForkStore; plain = g.O.Opens.plain; pairs = g.O.Opens.pairs } in
-    starts_where_left parts g.met.O.Opens.starts
+    (keeps-seen g.S.ForkStore, keeps-seen-where g.J.ForkStore (StartsOnDisk parts) (starts_on parts g.met.O.Opens.starts))

@@ -1,0 +1,13 @@
+pub mod Bytes
+pub mod Rows
+pub mod Colours
+pub mod Kinds
+pub mod Image
+pub mod Draws
+pub mod Drawings
+pub mod Maps
+pub mod Layouts
+pub mod Checks
+pub mod Png
+pub mod Reader
+pub mod Laws

@@ -1,0 +1,2 @@
+pub mod ForksRead
+pub mod Reading

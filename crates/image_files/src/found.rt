@@ -1,0 +1,251 @@
+//! Which volume, folder or file a path names.
+
+use crate::contents::{Contents, Place};
+use crate::files::Files;
+use crate::item::Info;
+use crate::volume::VolumeFiles;
+use hfs_volume::name::Name;
+use image_paths::ImagePath;
+use mfs_volume::volume::MfsVolume;
+use std::alloc::{AllocError, AllocFailed, Global};
+use thiserror::Error;
+use volume_names::find_thing;
+use volume_names::letters::{Rule, is_same_text};
+use volume_names::things::Thing;
+
+/// What a path names.
+#[derive(Clone, Copy, Debug, PartialEq, Eq)]
+pub enum Found {
+    /// The whole image, of several volumes.
+    Image,
+    /// A volume: its number among the contents, from 0 on.
+    Volume(usize),
+    Folder(Place),
+    File(Place),
+}
+
+/// Why a path names nothing. Names have numbers from 1 on.
+#[derive(Clone, Copy, Debug, PartialEq, Eq, Error)]
+pub enum NotFound {
+    /// There is nothing of this name, of a volume, a folder or a file, where those before it lead.
+    #[error("there is nothing named by name {0} of the path")]
+    Missing(usize),
+    /// The last name is of a file, and a folder is asked for.
+    #[error("it is a file, and no folder")]
+    NotFolder,
+    /// The volume isn't read: its number among the contents, from 0 on.
+    #[error("the volume can't be read")]
+    Refused(usize),
+    /// The host has no memory.
+    #[error("the host has no memory")]
+    HostFull,
+}
+
+impl From<AllocError> for NotFound {
+    ghost use Rattle.std.specs.Prelude.{◌≡◌};
+    ghost use Rattle.image_files.specs.declared.found.NotFound.TheVariants.{HostFull};
+
+    ghost from_gives = { λ _ fault. fault ≡ HostFull };
+
+    fn from(_: AllocError) -> NotFound {
+        NotFound::HostFull
+    }
+}
+
+impl<T: Drop> From<AllocFailed<T>> for NotFound {
+    ghost use Rattle.std.specs.Prelude.{◌≡◌};
+    ghost use Rattle.image_files.specs.declared.found.NotFound.TheVariants.{HostFull};
+
+    ghost from_gives = { λ _ fault. fault ≡ HostFull };
+
+    fn from(_: AllocFailed<T>) -> NotFound {
+        NotFound::HostFull
+    }
+}
+
+/// The most bytes of a name in an HFS volume.
+const LONGEST: usize = 31;
+
+/// The names of a path up to the first that an HFS volume can't have.
+fn hfs_names(alloc: Global, names: &[Vec<u8>]) -> Result<Vec<Name>, AllocError> {
+    let mut path = Vec::new(alloc);
+    for name in names {
+        if name.len() > LONGEST {
+            return Ok(path);
+        }
+        path.push(Name::from_bytes(name))?;
+    }
+    Ok(path)
+}
+
+/// How many names of a path lead to a folder or a file, one after another.
+fn leading(things: &[Thing], path: &[Name]) -> usize {
+    for count in 0..path.len() {
+        if find_thing(things, &path[..count + 1]).is_none() {
+            return count;
+        }
+    }
+    path.len()
+}
+
+/// Which thing a path names in an HFS volume, or how many of its names lead to one.
+fn find_hfs(
+    alloc: Global,
+    things: &[Thing],
+    names: &[Vec<u8>],
+) -> Result<Result<usize, usize>, AllocError> {
+    let path = hfs_names(alloc, names)?;
+    let count = leading(things, &path);
+    if count < names.len() {
+        return Ok(Err(count));
+    }
+    match find_thing(things, &path) {
+        Some(thing) => Ok(Ok(thing)),
+        None => Ok(Err(0)),
+    }
+}
+
+/// The first file of an MFS volume with a name that is the same by a rule.
+fn find_by(rule: Rule, volume: &MfsVolume, name: &[u8]) -> Option<usize> {
+    volume
+        .files
+        .iter()
+        .position(|file| is_same_text(rule, file.name_bytes(), name))
+}
+
+/// Which file a path of one name or more names in an MFS volume, or how many of its names lead to one.
+fn find_mfs(volume: &MfsVolume, names: &[Vec<u8>]) -> Result<usize, usize> {
+    let [name, others @ ..] = names else {
+        return Err(0);
+    };
+    let found = match find_by(Rule::Bytes, volume, name) {
+        Some(file) => Some(file),
+        None => find_by(Rule::Letters, volume, name),
+    };
+    match found {
+        Some(file) if others.is_empty() => Ok(file),
+        Some(_) => Err(1),
+        None => Err(0),
+    }
+}
+
+/// Which thing a path of one name or more names in a volume, or how many of its names lead to one.
+fn find_thing_in(
+    alloc: Global,
+    files: &Files,
+    names: &[Vec<u8>],
+) -> Result<Result<usize, usize>, AllocError> {
+    match files {
+        Files::Hfs(_, things) => find_hfs(alloc, things, names),
+        Files::Mfs(volume) => Ok(find_mfs(volume, names)),
+    }
+}
+
+/// What a path names in a volume of this number, after so many names that led to it.
+fn find_in(
+    alloc: Global,
+    number: usize,
+    volume: &VolumeFiles,
+    before: usize,
+    names: &[Vec<u8>],
+) -> Result<Found, NotFound> {
+    if names.is_empty() {
+        return Ok(Found::Volume(number));
+    }
+    let thing = match find_thing_in(alloc, &volume.files, names)? {
+        Ok(thing) => thing,
+        Err(count) => return Err(NotFound::Missing(before.saturating_add(count).saturating_add(1))),
+    };
+    let place = Place {
+        volume: number,
+        thing,
+    };
+    match volume.info(thing) {
+        Some(Info::Folder(_)) => Ok(Found::Folder(place)),
+        Some(Info::File(_)) | None => Ok(Found::File(place)),
+    }
+}
+
+/// The number that the digits of a text are, if it has one to five and nothing else.
+fn number_of(text: &[u8]) -> Option<u32> {
+    if text.is_empty() || text.len() > 5 {
+        return None;
+    }
+    let mut number: u32 = 0;
+    for byte in text {
+        if !byte.is_ascii_digit() {
+            return None;
+        }
+        number = number
+            .saturating_mul(10)
+            .saturating_add((*byte - b'0') as u32);
+    }
+    Some(number)
+}
+
+impl Contents {
+    /// The first volume whose name is the same by a rule.
+    fn volume_by(&self, rule: Rule, name: &[u8]) -> Option<usize> {
+        self.volumes.iter().position(|placed| match &placed.found {
+            Ok(volume) => is_same_text(rule, volume.name().as_bytes(), name),
+            Err(_) => false,
+        })
+    }
+
+    /// The volume that a name is of: `#` and the number of a partition, or the name of a volume.
+    fn volume_of(&self, name: &[u8]) -> Option<usize> {
+        if let [b'#', digits @ ..] = name {
+            if let Some(number) = number_of(digits) {
+                return self
+                    .volumes
+                    .iter()
+                    .position(|placed| placed.part as u32 == number);
+            }
+        }
+        match self.volume_by(Rule::Bytes, name) {
+            Some(volume) => Some(volume),
+            None => self.volume_by(Rule::Letters, name),
+        }
+    }
+
+    /// What the names after those that led to a volume name.
+    fn find_below(
+        &self,
+        alloc: Global,
+        number: usize,
+        before: usize,
+        names: &[Vec<u8>],
+    ) -> Result<Found, NotFound> {
+        let Some(placed) = self.volumes.get(number) else {
+            return Err(NotFound::Missing(before));
+        };
+        match &placed.found {
+            Ok(volume) => find_in(alloc, number, volume, before, names),
+            Err(_) => Err(NotFound::Refused(number)),
+        }
+    }
+
+    /// What the names of a path lead to.
+    fn find_names(&self, alloc: Global, names: &[Vec<u8>]) -> Result<Found, NotFound> {
+        if self.volumes.len() == 1 {
+            return self.find_below(alloc, 0, 0, names);
+        }
+        let [first, others @ ..] = names else {
+            return Ok(Found::Image);
+        };
+        match self.volume_of(first) {
+            Some(number) => self.find_below(alloc, number, 1, others),
+            None => Err(NotFound::Missing(1)),
+        }
+    }
+}
+
+/// What a path names. Names are compared byte by byte; where nothing has just these, as the File Manager compares them,
+/// where case doesn't count. Where an image has several volumes, the first name is a volume's, or `#` and the number of its
+/// partition.
+pub fn find(alloc: Global, contents: &Contents, path: &ImagePath) -> Result<Found, NotFound> {
+    match contents.find_names(alloc, &path.names)? {
+        Found::File(_) if path.is_folder => Err(NotFound::NotFolder),
+        found => Ok(found),
+    }
+}

@@ -1,0 +1,2 @@
+pub mod HostTexts
+pub mod Reading

@@ -1,0 +1,4 @@
+pub mod Names
+pub mod Paths
+pub mod Shown
+pub mod HostNames

@@ -1,0 +1,9 @@
+pub mod Pairs
+pub mod Numbers
+pub mod Bytes
+pub mod TextLaws
+pub mod Steps
+pub mod WritingSteps
+pub mod Sound
+pub mod WholeLaws
+pub mod TextSame

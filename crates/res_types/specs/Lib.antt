@@ -1,0 +1,5 @@
+pub mod Bits
+pub mod Texts
+pub mod Reading
+pub mod Writing
+pub mod Meaning
