@@ -1,23 +1,17 @@
 -- Where a map suits its table, no slot is a pointer, and no free block's contents begin where a live block's do.
-use Rattle.std.proofs.Common.{◌≡◌, ℕ, ◌+◌, ◌*◌, ◌≤◌, true, false, cond, List, [], ◌∷◌, ◌++◌, map, refl, ap, sym, ◌∙◌, arith, IsTrue, Contains, subst}
+use Rattle.std.proofs.Common.{◌≡◌, ℕ, ◌+◌, true, false, cond, List, [], ◌∷◌, ◌++◌, map, refl, ap, sym, ◌∙◌, arith, IsTrue, Contains, subst}
 use Rattle.std.specs.List.{list_all}
 use Rattle.std.proofs.lemmas.List.Elements.{Contains-append_right}
 use Rattle.std.proofs.lemmas.Bool.{false_from_ne_true, and_parts, and_from}
 use Rattle.mac_base.specs.declared.block.Entry.{Entry}
-use Rattle.mac_base.specs.declared.block.HeadKind.{HeadKind}
-use Rattle.mac_base.specs.declared.block.HeadKind.TheVariants.{Bits24, Bits32}
 use Rattle.mac_base.specs.declared.block.Kind.{Kind}
 use Rattle.mac_base.specs.declared.block.Kind.TheVariants.{Free}
-use Rattle.mac_base.specs.HeadKind.{Shape, need, head_size, slot_count, master_length}
+use Rattle.mac_base.specs.HeadKind.{Shape, head_size, slot_count}
 use Rattle.mac_base.specs.ZoneMap.{ZoneMap, block, is_free, is_master, total_size, address_after, addresses, addresses_from}
 use Rattle.mac_base.specs.HandleTable.{HandleTable, is_pointer, is_handle}
 use Rattle.mac_base.specs.Suits.{Suits, is_block_size, is_pointer_block, has_owners_length, slots}
 use Rattle.zone_laws.proofs.Maps.{addresses_from-append}
 use Rattle.zone_laws.proofs.SlotPlaces.{has_room, slot_no_contents, one_block_at, Contains-here}
-
-large_master : (heads : HeadKind) → head_size heads + 4 * 64 ≤ need heads master_length
-large_master Bits24 = omega arith
-large_master Bits32 = omega arith
 
 -- each block of a map that suits its table has room for its header, and a master block for its slots
 has_room-suits : (s : Shape) (t : HandleTable) (e : Entry) → is_block_size s e.size ≡ true → has_owners_length s t e ≡ true → has_room (head_size s.heads) slot_count e ≡ true
