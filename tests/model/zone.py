@@ -48,6 +48,8 @@ class Zone:
         self.blocks = [Block(master, "master"), Block(size - 52 - master, "free")]
         self.slots = [self.first + self.head + 4 * it for it in range(64)]
         self.live, self.lent, self.refused = {}, [], 0
+        # what calls did, for who shows a run: ("purged" or "disposed", a number), ("grown", bytes), ("answered", needed, value, calls)
+        self.happened = []
 
     def needed(self, length):
         return max(self.least, (length + self.head + 3) // 4 * 4)
@@ -103,6 +105,7 @@ class Zone:
 
     def grow(self):
         if self.growth_left():
+            self.happened.append(("grown", self.growth_left()))
             self.blocks.append(Block(self.growth_left(), "free"))
             self.join()
 
@@ -239,6 +242,7 @@ class Zone:
         return [it for it in owners if it not in protected and self.live[it].is_handle and self.live[it].flags & (LOCK | PURGE) == PURGE]
 
     def purge(self, number):
+        self.happened.append(("purged", number))
         self.free(number)
         self.live[number] = Owner(True, None)
 
@@ -270,6 +274,7 @@ class Zone:
                 raise Refused(FULL)
             calls, value = self.answers.pop(0)
             self.asked.append((needed, value))
+            self.happened.append(("answered", needed, value, calls))
             for name, number in calls:
                 if number not in protected:
                     try:
@@ -468,6 +473,7 @@ class Zone:
     def dispose_handle(self, number):
         owner = self.handle(number)
         self.not_lent(number)
+        self.happened.append(("disposed", number))
         if owner.contents is not None:
             self.free(number)
         del self.live[number]
@@ -476,6 +482,7 @@ class Zone:
     def dispose_ptr(self, number):
         self.pointer(number)
         self.not_lent(number)
+        self.happened.append(("disposed", number))
         self.free(number)
         del self.live[number]
 
