@@ -1,7 +1,8 @@
 """A page of a run on the model: the zone's map after each call, for any browser. tools/play.py --html writes it.
 
-The page needs nothing else, and lets nothing out: its policy allows its own style and its own script, by their digests, and nothing more. The
-run is in it as JSON without `<`, `>` and `&`, and the script of the page (heap_page.js) puts texts in as texts.
+The page needs nothing else, and lets nothing out: its policy allows its own style and its own script, by their
+digests, and nothing more. The run is in it as JSON without `<`, `>` and `&`, and the script of the page
+(heap_page.js) puts texts in as texts.
 """
 import base64
 import hashlib
@@ -62,15 +63,18 @@ class Steps:
     def __init__(self, run: Run, is_asked: bool):
         self.run, self.is_asked = run, is_asked
         self.contents, self.files = Texts(), Texts()
+        # how often each number was disposed of, and to which life of which number each name was given
         self.lives: dict[int, int] = {}
+        self.named: dict[bytes, tuple[int, int]] = {}
         self.steps: list[dict] = []
         self.blocks = 0
         self.places: dict[str, int] = {}
         self.keep(0, "", "The zone as it is made, before the first line.", [])
 
     def name(self, number: int) -> str:
-        """The names of a script that have this number now."""
-        return ", ".join(name.decode() for name, value in self.run.variables.items() if value == number)
+        """The names that a script gave to what has this number now."""
+        it = number, self.lives.get(number, 0)
+        return ", ".join(name.decode() for name, given in self.named.items() if given == it)
 
     def called(self, number: int) -> str:
         """A handle or a pointer as events have it."""
@@ -81,7 +85,9 @@ class Steps:
         """The letters of a block's flags, and of a loan."""
         zone = self.run.toolbox
         bits = ((LOCK, "L"), (PURGE, "P"), (RESOURCE, "R"))
-        return "".join(letter for bit, letter in bits if zone.live[number].flags & bit) + ("O" if number in zone.lent else "")
+        return "".join(letter for bit, letter in bits if zone.live[number].flags & bit) + (
+            "O" if number in zone.lent else ""
+        )
 
     def block(self, at: int, size: int, owner: str | int) -> Block:
         """A block of the zone."""
@@ -91,7 +97,18 @@ class Steps:
         kind = "rel" if it.is_handle else "ptr"
         contents = self.contents.place(bytes(it.contents[:MOST_SHOWN]).hex())
         key = f"{kind}{owner}.{life}"
-        return Block(key, kind, at, size, address(owner), self.name(owner), len(it.contents), self.flags(owner), contents, owner if it.is_handle else 0)
+        return Block(
+            key,
+            kind,
+            at,
+            size,
+            address(owner),
+            self.name(owner),
+            len(it.contents),
+            self.flags(owner),
+            contents,
+            owner if it.is_handle else 0,
+        )
 
     def events(self) -> list[list[str]]:
         """What the last call did unasked, in words, each after its kind."""
@@ -106,7 +123,12 @@ class Steps:
             else:
                 needed, value, calls = values
                 made = "; ".join(f"{name} {self.called(number)}" for name, number in calls) or "nothing"
-                said.append(["asked", f"the grow-zone procedure is asked for {needed} bytes: it answers {value}, and calls {made}"])
+                said.append(
+                    [
+                        "asked",
+                        f"the grow-zone procedure is asked for {needed} bytes: it answers {value}, and calls {made}",
+                    ]
+                )
         return said
 
     def moved(self, blocks: list[Block]) -> list[list[str]]:
@@ -141,14 +163,25 @@ class Steps:
 
     def add(self, done: Done) -> None:
         """Keeps what there is after a call."""
-        if self.is_asked:
-            reply = done.reply.split("\n")
-            words = reply[0].split(" ")
-            is_refused = len(words) == 3 and words[2].startswith("-")
-            lines = reply[:1] if done.call.name == "ZoneMap" else reply
-            self.keep(done.call.number, "refused" if is_refused else "", "\n".join(lines), self.events())
+        if not self.is_asked:
+            return
+        events = self.events()
+        if done.call.assigned is not None:
+            value = self.run.variables[done.call.assigned]
+            self.named[done.call.assigned] = value, self.lives.get(value, 0)
+        reply = done.reply.split("\n")
+        words = reply[0].split(" ")
+        mark = "refused" if len(words) == 3 and words[2].startswith("-") else ""
+        said = reply[0] if done.call.name == "ZoneMap" else done.reply
+        self.keep(done.call.number, mark, said, events, self.number_of(done))
 
-    def keep(self, line: int, mark: str, reply: str, events: list) -> None:
+    def number_of(self, done: Done) -> int:
+        """The handle or the pointer that a call is about: its result, or the first of its operands that is one."""
+        words = done.reply.split("\n")[0].split(" ")
+        result = [int(it[1:], 16) for it in words[2:3] if it[:1] == "$" and it[1:2] != '"']
+        return next((it for it in [*result, *done.operands] if isinstance(it, int) and it in self.run.toolbox.live), 0)
+
+    def keep(self, line: int, mark: str, reply: str, events: list, number: int = 0) -> None:
         """Keeps a map."""
         if not self.is_asked:
             return
@@ -156,7 +189,10 @@ class Steps:
         blocks = [self.block(at, block.size, block.owner) for at, block in zone.placed()]
         self.blocks += len(blocks)
         if len(self.steps) > MOST_STEPS or self.blocks > MOST_BLOCKS:
-            raise NoPage(f"no page is made: it would have more than {MOST_STEPS} calls, or {MOST_BLOCKS} blocks in all maps; make two scripts of it")
+            raise NoPage(
+                f"no page is made: it would have more than {MOST_STEPS} calls, or {MOST_BLOCKS} blocks in all maps; "
+                "make two scripts of it"
+            )
         events += self.moved(blocks)
         marks = [mark, *dict.fromkeys(kind for kind, _ in events)]
         self.steps.append(
@@ -166,6 +202,7 @@ class Steps:
                 "marks": [it for it in marks if it],
                 "events": [said for _, said in events],
                 "blocks": blocks,
+                "block": next((it.key for it in blocks if it.handle and it.handle == address(number)), ""),
                 "empty": [[address(it), self.name(it)] for it, owner in zone.live.items() if owner.contents is None],
                 "files": self.files.place(json.dumps(self.file_table())),
             }
@@ -217,7 +254,8 @@ def page(title: str, text: bytes, steps: Steps) -> str:
         "steps": steps.steps,
     }
     style, script = part("heap_page.css"), part("heap_page.js")
-    policy = f"default-src 'none'; style-src '{digest(style)}'; script-src '{digest(script)}'; base-uri 'none'; form-action 'none'"
+    allowed = f"style-src '{digest(style)}'; script-src '{digest(script)}'"
+    policy = f"default-src 'none'; {allowed}; base-uri 'none'; form-action 'none'"
     values = {"TITLE": html.escape(title), "POLICY": policy, "STYLE": style, "DATA": data_text(data), "SCRIPT": script}
     return Template(part("heap_page.html")).substitute(values)
 

@@ -1,14 +1,15 @@
 #!/usr/bin/env python3
-"""Runs a script of calls of the Memory Manager and the Resource Manager by Python alone, and prints what macheap prints:
+"""Runs a script of calls of the Memory Manager and the Resource Manager by Python alone; prints what macheap prints:
 
     tools/play.py SCRIPT [--zone N] [--limit N] [--base N] [--mode 24|32] [--large] [--fork FILE].. [--html OUT]
 
-The options are macheap's (docs/SCRIPT.md). If there are none, those of the line '# macheap OPTIONS' at the head of the script count, as in
-examples/; its files are in the script's folder. SCRIPT may be - for the standard input. It runs on the model of tests/model, which is written
-from the rules alone: no toolchain is needed, and nothing is proved of it. Files are read and never written.
+The options are macheap's (docs/SCRIPT.md). If there are none, those of the line '# macheap OPTIONS' at the head of the
+script count, as in examples/; its files are in the script's folder. SCRIPT may be - for the standard input. It runs on
+the model of tests/model, which is written from the rules alone: no toolchain is needed, and nothing is proved of it.
+Files are read and never written.
 
-With --html it also writes a page, for any browser: the zone's map after each call. The exit status is 0, or 3 for a fault in the script, 2 for
-one in the words, 1 if a file can't be read or written.
+With --html it also writes a page, for any browser: the zone's map after each call. The exit status is 0, or 3 for a
+fault in the script, 2 for one in the words, 1 if a file can't be read or written.
 """
 import argparse
 import os
@@ -32,7 +33,9 @@ class NotPlayed(Exception):
 
 def words() -> argparse.ArgumentParser:
     """The words of the command line."""
-    parser = argparse.ArgumentParser(description=__doc__, formatter_class=argparse.RawDescriptionHelpFormatter, allow_abbrev=False)
+    parser = argparse.ArgumentParser(
+        description=__doc__, formatter_class=argparse.RawDescriptionHelpFormatter, allow_abbrev=False
+    )
     parser.add_argument("script", metavar="SCRIPT")
     for name in ("zone", "limit", "base", "mode"):
         parser.add_argument(f"--{name}", metavar="N", type=number)
@@ -61,7 +64,9 @@ def no_zone(asked: argparse.Namespace) -> str | None:
         f"a zone's limit is a multiple of 4 bytes, and {limit} is none": limit % 4,
         f"a zone's limit is {most} bytes at most, and {limit} are too many": limit > most,
         f"a zone's limit is its size at least, and {limit} is below it": limit < zone,
-        f"a zone that may grow may grow by {LEAST_GROWTH} bytes at least, and {limit - zone} are too few": 0 < limit - zone < LEAST_GROWTH,
+        f"a zone that may grow may grow by {LEAST_GROWTH} bytes at least, and {limit - zone} are too few": 0
+        < limit - zone
+        < LEAST_GROWTH,
         f"a zone begins at a multiple of 4, and {base} is none": base % 4,
         f"a zone begins at {LEAST_BASE} or above, and {base} is too low": base < LEAST_BASE,
         f"a zone that has grown ends at {end} or below, and {base + limit} is above": base + limit > end,
@@ -70,7 +75,9 @@ def no_zone(asked: argparse.Namespace) -> str | None:
 
 
 def bytes_of(path: str, most: int) -> bytes:
-    """The bytes of a file, one more than these at most; those of a missing one are none."""
+    """The bytes of a file, one more than these at most."""
+    if path != "-" and os.path.exists(path) and not os.path.isfile(path):
+        raise NotPlayed(1, f"{path}: can't be read: it is no regular file")
     try:
         with open(0 if path == "-" else path, "rb") as file:
             return file.read(most + 1)
@@ -82,11 +89,13 @@ def asked_for(given: list[str], text: bytes) -> argparse.Namespace:
     """What the words ask for, with those of the script's head if there are no others."""
     asked = words().parse_args(given)
     head = HEAD.match(text)
-    if head and not (asked.fork or asked.large or any(it is not None for it in (asked.zone, asked.limit, asked.base, asked.mode))):
+    if head and not (
+        asked.fork or asked.large or any(it is not None for it in (asked.zone, asked.limit, asked.base, asked.mode))
+    ):
         folder = os.path.dirname(asked.script)
-        told = words().parse_args([asked.script, *head[1].decode("latin-1").split()])
-        told.fork = [os.path.join(folder, it) for it in told.fork]
-        told.html, asked = asked.html, told
+        of_head = words().parse_args([asked.script, *head[1].decode("latin-1").split()])
+        of_head.fork = [os.path.join(folder, it) for it in of_head.fork]
+        of_head.html, asked = asked.html, of_head
     asked.zone = 4096 if asked.zone is None else asked.zone
     asked.limit = asked.zone if asked.limit is None else asked.limit
     asked.base = 0x100000 if asked.base is None else asked.base
@@ -121,14 +130,18 @@ def played(given: list[str]) -> None:
         steps.add(done)
     for path, old, new in zip(asked.fork, before, run.toolbox.disks):
         if old != new:
-            print(f"tools/play.py: {path} is left as it is; macheap would write a fork of {len(new)} bytes", file=sys.stderr)
+            print(
+                f"tools/play.py: {path} is left as it is; macheap would write a fork of {len(new)} bytes",
+                file=sys.stderr,
+            )
     if asked.html:
         heap_page.write(asked.html, os.path.basename(asked.script), text, steps)
 
 
-def main() -> int:
+def main(given: list[str]) -> int:
+    """Does what the words ask for, and returns the exit status."""
     try:
-        played(sys.argv[1:])
+        played(given)
     except Fault as fault:
         print(f"script fault at line {fault.line}")
         print(f"error: line {fault.line}: {fault.wrong}", file=sys.stderr)
@@ -145,4 +158,4 @@ def main() -> int:
 
 
 if __name__ == "__main__":
-    sys.exit(main())
+    sys.exit(main(sys.argv[1:]))

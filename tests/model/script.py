@@ -1,5 +1,5 @@
-"""A script, by the rules of docs/SCRIPT.md: its lines from its bytes, or its first fault and what is wrong there; and a run of it on the model
-of a zone and its files. It shares nothing with the program.
+"""A script, by the rules of docs/SCRIPT.md: its lines from its bytes, or its first fault and what is wrong there; and a
+run of it on the model of a zone and its files. It shares nothing with the program.
 """
 import re
 from typing import Iterator, NamedTuple
@@ -9,13 +9,15 @@ from model.zone import FLAG_CALLS, Refused
 from model.zone import CALLS as MODELLED
 
 MOST_BYTES, MOST_LINES, MOST_TOKENS, MOST_CALLS, MOST_NUMBER = 1048576, 65536, 26, 8, 0xFFFFFFFF
-# the calls by their operands: n a number, b bytes, i an id, t a type, in brackets what may be left out; a line may assign the result of those with a =
+# the calls by their operands: n a number, b bytes, i an id, t a type, in brackets what may be left out. A line may
+# assign the result of those with a =
 CALLS_BY_OPERANDS = {
-    "": "NewEmptyHandle= MaxMem= PurgeSpace= MaxBlock= FreeMem= ZoneMap= CountTypes= CurResFile= MoreMasters MaxApplZone MemError ResError",
-    "n": "NewHandle= NewPtr= GetHandleSize= GetPtrSize= HGetState= Deref= RecoverHandle= HandToHand= CompactMem= GetResAttrs= SizeResource= "
-    "HomeResFile= OpenResFile= DisposeHandle DisposePtr EmptyHandle HLock HUnlock HPurge HNoPurge HSetRBit HClrRBit MoveHHi HLockHi PurgeMem "
-    "ReserveMem Lend Return LoadResource ReleaseResource DetachResource ChangedResource RemoveResource WriteResource GetResInfo GetIndType "
-    "SetResLoad UseResFile",
+    "": "NewEmptyHandle= MaxMem= PurgeSpace= MaxBlock= FreeMem= ZoneMap= CountTypes= CurResFile= MoreMasters "
+    "MaxApplZone MemError ResError",
+    "n": "NewHandle= NewPtr= GetHandleSize= GetPtrSize= HGetState= Deref= RecoverHandle= HandToHand= CompactMem= "
+    "GetResAttrs= SizeResource= HomeResFile= OpenResFile= DisposeHandle DisposePtr EmptyHandle HLock HUnlock HPurge "
+    "HNoPurge HSetRBit HClrRBit MoveHHi HLockHi PurgeMem ReserveMem Lend Return LoadResource ReleaseResource "
+    "DetachResource ChangedResource RemoveResource WriteResource GetResInfo GetIndType SetResLoad UseResFile",
     "nn": "PtrToHand= SetHandleSize SetPtrSize HSetState ReallocateHandle HandAndHand SetResAttrs",
     "nnn": "PtrToXHand PtrAndHand Peek LentPeek",
     "nnnnn": "BlockMove",
@@ -27,7 +29,11 @@ CALLS_BY_OPERANDS = {
     "[n]": "UpdateResFile CloseResFile",
 }
 GIVING = {name[:-1] for names in CALLS_BY_OPERANDS.values() for name in names.split() if name.endswith("=")}
-OPERANDS = {name.rstrip("="): re.findall(r"\[.\]|.", form) for form, names in CALLS_BY_OPERANDS.items() for name in names.split()}
+OPERANDS = {
+    name.rstrip("="): re.findall(r"\[.\]|.", form)
+    for form, names in CALLS_BY_OPERANDS.items()
+    for name in names.split()
+}
 LACKING = sorted(OPERANDS.keys() - MODELLED.keys() - FLAG_CALLS.keys() - {"MemError", "ResError"})
 RELEASING = ("DisposeHandle", "DisposePtr", "EmptyHandle")
 KINDS = {
@@ -38,7 +44,10 @@ KINDS = {
     "i": "a number from -32768 to 32767, or a name",
     "t": "a type of four bytes: 'ICN#' or $\"49434E23\"",
 }
-TOKEN = re.compile(rb"""[ \t]*(?:(?P<mark>[=;])|(?:(?P<hex>\$"[^"]*")|(?P<double>"[^"]*")|(?P<single>'[^']*')|(?P<word>[^ \t=;#'"]+))(?=[ \t=;#]|\Z))""")
+TOKEN = re.compile(
+    rb"""[ \t]*(?:(?P<mark>[=;])|(?:(?P<hex>\$"[^"]*")|(?P<double>"[^"]*")|(?P<single>'[^']*')"""
+    rb"""|(?P<word>[^ \t=;#'"]+))(?=[ \t=;#]|\Z))"""
+)
 REST = re.compile(rb"[ \t]*(?:#.*)?", re.DOTALL)
 NAME = re.compile(rb"[A-Za-z][A-Za-z0-9_]{0,30}")
 PRINTABLE = re.compile(rb"[ -~]*")
@@ -96,13 +105,25 @@ def tokens_of(line: bytes) -> list[Token]:
     found, at = [], 0
     while len(found) < MOST_TOKENS and (it := TOKEN.match(line, at)):
         text = it[it.lastgroup]
-        found.append(Token(it.lastgroup, text[{"hex": 2, "double": 1, "single": 1}.get(it.lastgroup, 0) : len(text) - (it.lastgroup in ("hex", "double", "single"))]))
+        found.append(
+            Token(
+                it.lastgroup,
+                text[
+                    {"hex": 2, "double": 1, "single": 1}.get(it.lastgroup, 0) : len(text)
+                    - (it.lastgroup in ("hex", "double", "single"))
+                ],
+            )
+        )
         at = it.end()
     if REST.fullmatch(line, at):
         return found
     if line[CLOSED.match(line).end() :][:1] in (b'"', b"'"):
         raise Wrong("a quote is open; close it in the same line")
-    raise Wrong("the line has more words than any call takes" if len(found) == MOST_TOKENS else "a blank is missing before or after a quote")
+    raise Wrong(
+        "the line has more words than any call takes"
+        if len(found) == MOST_TOKENS
+        else "a blank is missing before or after a quote"
+    )
 
 
 # operands: each of these functions gives the value of a token, or None if it is none of its kind
@@ -114,7 +135,11 @@ def number_of(token: Token, names: set) -> int | Name | None:
     if token.text in names:
         return Name(token.text)
     digits = re.fullmatch(rb"([0-9]+)|\$([0-9A-Fa-f]{1,8})", token.text)
-    value = int(digits[1] or digits[2], 10 if digits[1] else 16) if digits and len(token.text.lstrip(b"0")) < 20 else MOST_NUMBER + 1
+    value = (
+        int(digits[1] or digits[2], 10 if digits[1] else 16)
+        if digits and len(token.text.lstrip(b"0")) < 20
+        else MOST_NUMBER + 1
+    )
     return value if value <= MOST_NUMBER else None
 
 
@@ -136,7 +161,13 @@ def bytes_of(token: Token, _) -> bytes | None:
 
 
 def type_of(token: Token, names: set) -> bytes | None:
-    kind = token.text if token.kind == "single" and PRINTABLE.fullmatch(token.text) else bytes_of(token, names) if token.kind == "hex" else b""
+    kind = (
+        token.text
+        if token.kind == "single" and PRINTABLE.fullmatch(token.text)
+        else bytes_of(token, names)
+        if token.kind == "hex"
+        else b""
+    )
     return kind if kind is not None and len(kind) == 4 else None
 
 
@@ -145,7 +176,12 @@ READ = {"n": number_of, "b": bytes_of, "i": id_of, "t": type_of}
 
 def unassigned(token: Token | None, names: set) -> bool:
     """Whether a token is a name that no line before assigns."""
-    return token is not None and token.kind == "word" and NAME.fullmatch(token.text) is not None and token.text not in names
+    return (
+        token is not None
+        and token.kind == "word"
+        and NAME.fullmatch(token.text) is not None
+        and token.text not in names
+    )
 
 
 def operands_of(call: str, tokens: list[Token], names: set) -> list:
@@ -184,7 +220,9 @@ def queued(number: int, tokens: list[Token], names: set) -> Answer:
     for token in [*tokens[:1], *tokens[2::3]]:
         if unassigned(token, names):
             raise Wrong(f"{shown_word(token.text)} is not assigned in a line before")
-    raise Wrong("gz takes a number or a name, and then up to 8 calls of DisposeHandle, DisposePtr or EmptyHandle, parted by `;`")
+    raise Wrong(
+        "gz takes a number or a name, and then up to 8 calls of DisposeHandle, DisposePtr or EmptyHandle, parted by `;`"
+    )
 
 
 def statement(number: int, tokens: list[Token], names: set) -> Call | Answer:
@@ -271,6 +309,8 @@ class Run:
         """Runs the lines, and yields each call when it is made."""
         for line in lines:
             if isinstance(line, Answer):
-                self.toolbox.answers.append(([(name, self.value(it)) for name, it in line.calls], self.value(line.value)))
+                self.toolbox.answers.append(
+                    ([(name, self.value(it)) for name, it in line.calls], self.value(line.value))
+                )
             else:
                 yield self.made(line)
