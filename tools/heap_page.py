@@ -4,6 +4,8 @@ The page needs nothing else, and lets nothing out: its policy allows its own sty
 digests, and nothing more. The run is in it as JSON without `<`, `>` and `&`, and the script of the page
 (heap_page.js) puts texts in as texts.
 """
+from __future__ import annotations
+
 import base64
 import hashlib
 import html
@@ -122,11 +124,11 @@ class Steps:
                 said.append([kind, f"the zone grows by {values[0]} bytes"])
             else:
                 needed, value, calls = values
-                made = "; ".join(f"{name} {self.called(number)}" for name, number in calls) or "nothing"
+                made = "; ".join(f"{name} {self.called(number)}" for name, number in calls) or "no call"
                 said.append(
                     [
                         "asked",
-                        f"the grow-zone procedure is asked for {needed} bytes: it answers {value}, and calls {made}",
+                        f"the grow-zone procedure is asked for {needed} bytes: it answers {value}, and makes {made}",
                     ]
                 )
         return said

@@ -2,6 +2,7 @@
 """Draws the pictures of the pages. Each is written to the standard output, as SVG:
 
     tools/pictures.py zone [--script SCRIPT] [OUTPUT]    the maps that a run of macheap printed, one row a map
+    tools/pictures.py moves --script SCRIPT [OUTPUT]     the first two maps between which a handle's block moved
     tools/pictures.py fork FORK                          the bytes of a resource fork: each part has a colour
     tools/pictures.py block                              a handle, its master pointer and its block, before and after the block moves
     tools/pictures.py update                             an update with a journal: what is where in each step, and after a crash
@@ -236,8 +237,8 @@ def zone_picture(maps):
     return svg(WIDTH + 2 * MARGIN, top + 28, [*drawn, *draw_legend(keys, top + 4)])
 
 
-def zone(asked):
-    """The picture of what a run printed."""
+def maps_of(asked):
+    """The maps that a run printed."""
     with open(0 if asked.file == "-" else asked.file, encoding="ascii", newline="\n") as it:
         output = it.read()
     script = None
@@ -247,7 +248,71 @@ def zone(asked):
     maps = read(output, script)
     if not maps:
         raise NotRead("there is no map in it: let the script call ZoneMap")
-    return zone_picture(maps)
+    return maps
+
+
+def zone(asked):
+    """The picture of what a run printed."""
+    return zone_picture(maps_of(asked))
+
+
+# ---- blocks that move ----
+LANE, BETWEEN = 30, 62  # the heights of a row's arrow, and of what is between the rows
+
+
+def moved(before, after):
+    """The blocks of handles that are in both maps, in two places: each as it was and as it is."""
+    was = {it.number: it for it in before.blocks if it.kind == "rel"}
+    return [(was[it.number], it) for it in after.blocks if it.number in was and was[it.number].address != it.address]
+
+
+def draw_moved_row(it, place, y):
+    """A row of blocks, with the zone's header before them."""
+    yield rectangle(place(it.base()), y, place(it.blocks[0].address) - place(it.base()), BAR, "header", KINDS["header"][1], "zone header")
+    for each in it.blocks:
+        yield from draw_block(each, place(each.address), y, place(each.address + each.size) - place(each.address))
+
+
+def draw_pointer(it, place, edge, lane):
+    """The arrow from a handle's master pointer to its block, and the address that it has."""
+    start, end = place(int(it.number[1:], 16)), place(it.address + BLOCK_HEADER)
+    yield arrow(f"M{start:.1f} {edge}V{lane}H{end:.1f}V{edge}")
+    yield draw_text(end + 5, lane + (11 if lane < edge else -3), f"${it.address + BLOCK_HEADER:08X}", "address")
+
+
+def draw_band(old, new, place, top, low):
+    """What joins a block's two places."""
+    points = [(old.address, top), (old.address + old.size, top), (new.address + new.size, low), (new.address, low)]
+    corners = " ".join(f"{place(address):.1f},{y}" for address, y in points)
+    title = f"<title>{escape(old.name)} moves from ${old.address:08X} to ${new.address:08X}</title>"
+    return f'<polygon points="{corners}" fill="{BLUE}" opacity="0.4">{title}</polygon>'
+
+
+def moves_picture(before, after):
+    """Two maps, one above the other, with what moved between them, and the arrow of the first such handle in both."""
+    base = min(it.base() for it in (before, after))
+    scale = WIDTH / (max(it.end() for it in (before, after)) - base)
+    place = lambda address: MARGIN + (address - base) * scale
+    pairs, top = moved(before, after), 22 + LANE
+    (old, new), low = pairs[0], top + BAR + BETWEEN
+    end, ran = low + BAR, "; ".join(after.before)
+    drawn = [draw_text(MARGIN, 15, f"before {ran}: the master pointer of {old.name} has the address of its block", "said")]
+    drawn += [*draw_moved_row(before, place, top), *draw_moved_row(after, place, low)]
+    drawn += [draw_band(*pair, place, top + BAR, low) for pair in pairs]
+    drawn += [*draw_pointer(old, place, top, top - 20), *draw_pointer(new, place, end, end + 20)]
+    said = f"after it: the same master pointer, at {old.number}, has the new address; the handle and the bytes are as they were"
+    drawn.append(draw_text(MARGIN, end + 44, said, "said"))
+    keys = [(*KINDS[it], False) for it in ("header", "master", "rel", "free")]
+    return svg(WIDTH + 2 * MARGIN, end + 86, [*drawn, *draw_legend(keys, end + 60)])
+
+
+def moves(asked):
+    """The picture of the first two maps of a run between which a handle's block moved."""
+    maps = maps_of(asked)
+    for before, after in zip(maps, maps[1:]):
+        if moved(before, after):
+            return moves_picture(before, after)
+    raise NotRead("no block of a handle moves between two maps of it")
 
 
 # ---- a fork ----
@@ -425,15 +490,16 @@ def update(_):
 def main():
     words = argparse.ArgumentParser(description=__doc__, formatter_class=argparse.RawDescriptionHelpFormatter)
     kinds = words.add_subparsers(dest="kind", required=True)
-    of_zone = kinds.add_parser("zone")
-    of_zone.add_argument("--script", help="the script of the run")
-    of_zone.add_argument("file", nargs="?", default="-", help="what the run printed (none: standard input)")
+    for kind in ("zone", "moves"):
+        of_zone = kinds.add_parser(kind)
+        of_zone.add_argument("--script", help="the script of the run", required=kind == "moves")
+        of_zone.add_argument("file", nargs="?", default="-", help="what the run printed (none: standard input)")
     kinds.add_parser("fork").add_argument("file", help="a file that is a resource fork and nothing else")
     for kind in ("block", "update"):
         kinds.add_parser(kind)
     asked = words.parse_args()
     try:
-        drawn = {"zone": zone, "fork": fork, "block": block, "update": update}[asked.kind](asked)
+        drawn = {"zone": zone, "moves": moves, "fork": fork, "block": block, "update": update}[asked.kind](asked)
     except (NotRead, OSError, UnicodeDecodeError) as error:
         print(f"tools/pictures.py: {asked.file}: {error}", file=sys.stderr)
         return 1

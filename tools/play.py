@@ -11,6 +11,8 @@ Files are read and never written.
 With --html it also writes a page, for any browser: the zone's map after each call. The exit status is 0, or 3 for a
 fault in the script, 2 for one in the words, 1 if a file can't be read or written.
 """
+from __future__ import annotations
+
 import argparse
 import os
 import re

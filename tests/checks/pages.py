@@ -20,7 +20,7 @@ BLOCK = re.compile(r"^```.*?^```$", re.M | re.S)
 CODE = re.compile(r"`[^`\n]*`|^    .*$", re.M)
 # the most lines that each page may have; there are no others
 LINES = {
-    "README.md": 90,
+    "README.md": 100,
     "docs/CONTRIBUTING.md": 60,
     "docs/DECISIONS.md": 60,
     "docs/DESIGN.md": 198,
@@ -33,7 +33,7 @@ LINES = {
 }
 WIDTH = 100
 # the most words of all pages, code blocks aside
-WORDS = 11500
+WORDS = 12500
 GLOSSARY = "docs/DESIGN.md"
 # the line of the glossary that has the words that no page uses, and what is allowed of them
 ALLOWED = re.compile(r"\bstands? for\b")

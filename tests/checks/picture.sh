@@ -1,7 +1,7 @@
 #!/usr/bin/env bash
 # Checks that tools/pictures.py reads what the program prints: that it draws each block of each example's output once,
-# refuses what it can't read, and that the pictures in docs/ are those that it draws: zone.svg of examples/kinds.output, and
-# fork.svg of the sample, with each byte. (That the outputs of the examples are what the program prints is checked by
+# refuses what it can't read, and that the pictures in docs/ are those that it draws: zone.svg of examples/kinds.output,
+# moves.svg of examples/compaction.output, and fork.svg of the sample, with each byte. (That the outputs of the examples are what the program prints is checked by
 # tests/checks/examples.sh.) With --write it writes the pictures.
 #
 #     tests/checks/picture.sh [--write]
@@ -25,6 +25,7 @@ sample=crates/resfork/data/sample.rsrc
 draw() {
     case $1 in
         zone) tools/pictures.py zone --script examples/kinds.script examples/kinds.output ;;
+        moves) tools/pictures.py moves --script examples/compaction.script examples/compaction.output ;;
         fork) tools/pictures.py fork "$sample" ;;
         *) tools/pictures.py "$1" ;;
     esac
@@ -40,7 +41,7 @@ refuses() {
     fi
 }
 
-for name in zone fork block update; do
+for name in zone moves fork block update; do
     if ! draw "$name" >"$folder/$name"; then
         fail "docs/$name.svg can't be drawn"
     elif [ "${1-}" = --write ]; then
@@ -104,6 +105,6 @@ refuses_fork examples/short.rsrc
 head -c 400 "$sample" >"$folder/cut"
 refuses_fork "$folder/cut"
 if [ "$failed" -eq 0 ]; then
-    echo "picture: $maps outputs, a fork, a block and an update drawn"
+    echo "picture: $maps outputs, blocks that move, a fork, a block and an update drawn"
 fi
 exit "$failed"

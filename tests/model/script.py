@@ -1,6 +1,8 @@
 """A script, by the rules of docs/SCRIPT.md: its lines from its bytes, or its first fault and what is wrong there; and a
 run of it on the model of a zone and its files. It shares nothing with the program.
 """
+from __future__ import annotations
+
 import re
 from typing import Iterator, NamedTuple
 

@@ -274,7 +274,7 @@ class Zone:
                 raise Refused(FULL)
             calls, value = self.answers.pop(0)
             self.asked.append((needed, value))
-            self.happened.append(("answered", needed, value, calls))
+            self.happened.append(("answered", needed, value, [it for it in calls if it[1] not in protected]))
             for name, number in calls:
                 if number not in protected:
                     try:
