@@ -6,8 +6,6 @@ digests, and nothing more. The run is in it as JSON without `<`, `>` and `&`, an
 """
 from __future__ import annotations
 
-import base64
-import hashlib
 import html
 import json
 import os
@@ -18,8 +16,8 @@ from model.fork import WORDS
 from model.script import Done, Run
 from model.toolbox import shown_type
 from model.zone import LOCK, PURGE, RESOURCE, address, shown
+from page_policy import digest, part
 
-FOLDER = os.path.dirname(os.path.abspath(__file__))
 DOCTYPE = "<!doctype html>"
 # the most calls, the most blocks in all maps, and the bytes of a block that a page shows
 MOST_STEPS, MOST_BLOCKS, MOST_SHOWN = 4096, 100000, 256
@@ -224,23 +222,12 @@ def may_write(path: str) -> None:
         raise NoPage(f"{path} is there, and is no page that this tool made: name another file")
 
 
-def digest(text: str) -> str:
-    """What a policy has of a style or a script that it allows."""
-    return "sha256-" + base64.b64encode(hashlib.sha256(text.encode()).digest()).decode()
-
-
 def data_text(data: dict) -> str:
     """JSON that is the same in a page: nothing in it can end the element that it is in."""
     text = json.dumps(data, separators=(",", ":"))
     for mark in "<>&":
         text = text.replace(mark, f"\\u{ord(mark):04x}")
     return text
-
-
-def part(name: str) -> str:
-    """The text of a file beside this one."""
-    with open(os.path.join(FOLDER, name), encoding="utf-8") as file:
-        return file.read()
 
 
 def page(title: str, text: bytes, steps: Steps) -> str:
