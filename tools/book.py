@@ -22,9 +22,12 @@ FUNCTIONS = [
     ("run", "crates/script_run/src/running.rt", "run", "a run of a script"),
     ("resfork", "crates/resfork/src/main.rt", "run_asked", "resfork, once its words are read"),
 ]
+# what is a type of arguments of a function, and no premise
+TYPES = re.compile(r"[\s()]*(?:(?:ℕ|ℤ|Bool|Type|0|List|Option|[A-Z]\w*)[\s()]*)?(?:ℕ|ℤ|Bool|0)?[\s()]*")
 OPENS, CLOSES = "([{", ")]}"
 # what a clause of the code begins with
 CLAUSE = re.compile(r"^\s*(?:ensures|requires)\b")
+ENDS_CLAUSE = re.compile(r"^\s*(?:ensures|requires|//|$)")
 
 
 class Segment:
@@ -58,11 +61,11 @@ def premises(text: str) -> list[tuple[int, int]]:
             segments.pop()
         elif letter == "→":
             before = text[segments[-1].start : at]
-            if before.strip() and not is_binder(before) and not segments[-1].is_type:
+            if not TYPES.fullmatch(before) and not is_binder(before) and not segments[-1].is_type:
                 found.append((at - len(before.lstrip()), at - len(before) + len(before.rstrip())))
             segments[-1].start = at + 1
-        elif re.match(r" = |\. | in ", text[at : at + 4]):
-            segments[-1].start = at + 2
+        elif word := re.match(r" = |\. | in ", text[at : at + 4]):
+            segments[-1].start = at + len(word[0])
         elif text.startswith(" : ", at) and len(segments) > 1:
             segments[-1].is_type = True
         elif text.startswith(" : ", at):
@@ -136,17 +139,21 @@ class Book:
         return f'<section id="{place}"><p>{said}</p><pre>{marked(text, links, red)}</pre></section>'
 
     def contract(self, name: str, clauses: Clauses) -> str:
-        """A function's head, with its clauses."""
-        lines = clauses.text.rstrip().removesuffix("{").rstrip().split("\n")
+        """A function's comment, and its head with its clauses."""
+        head = clauses.text.rstrip().removesuffix("{").rstrip().split("\n")
+        remarks = [it.strip().removeprefix("///").strip() for it in head if it.strip().startswith("///")]
+        lines = [it for it in head if not it.strip().startswith("///")]
         text, red, at, is_required = "\n".join(lines), [], 0, False
         for line in lines:
-            is_required = line.lstrip().startswith("requires") or is_required and not CLAUSE.match(line)
+            begins = line.lstrip().startswith("requires")
+            is_required = begins or is_required and not ENDS_CLAUSE.match(line)
             if is_required:
                 red.append((at + len(line) - len(line.lstrip()), at + len(line)))
             elif CLAUSE.match(line) or line.lstrip().startswith(("×", "(")):
                 red += [(at + start, at + end) for start, end in premises(line)]
             at += len(line) + 1
-        return f'<section id="contract-{name}"><pre>{marked(text, self.links(text, clauses.imports.get), red)}</pre></section>'
+        said, code = html.escape(" ".join(remarks)), marked(text, self.links(text, clauses.imports.get), red)
+        return f'<section id="contract-{name}"><p>{said}</p><pre>{code}</pre></section>'
 
     def chapters(self) -> dict[str, list[str]]:
         """The definitions of each crate, those of the highest crates first."""
@@ -186,16 +193,18 @@ class Book:
 def premises_of(lines: list[str]) -> list[tuple[int, int]]:
     """The premises of a definition, but for its head, which has types of arguments."""
     name = re.search(r"(?:abbrev|record|data)\s+(?:pub\s+)?([^\s(:{]+)", lines[0])
-    first = next(
-        (at for at, it in enumerate(lines) if at and (not name or it.lstrip().startswith((name[1], "pub ")))),
-        len(lines),
-    )
-    found, at = [], 0
-    for number, line in enumerate(lines):
-        if number >= first and not line.strip().startswith("--"):
-            found += [(at + start, at + end) for start, end in premises(line)]
+    begins = re.compile(rf"\s*(?:--|pub |{re.escape(name[1]) if name else '--'}[\s{{=])|  [^\s:(]+(?: [^\s:(]+)* : ")
+    # each equation or field is read as a whole
+    units: list[list] = []
+    at = len(lines[0]) + 1
+    for line in lines[1:]:
+        if begins.match(line):
+            units.append([at, ""])
+        if units:
+            units[-1][1] += line + "\n"
         at += len(line) + 1
-    return found
+    read = [(at, text) for at, text in units if not text.strip().startswith("--")]
+    return [(at + start, at + end) for at, text in read for start, end in premises(text)]
 
 
 def anchor(module: str, name: str) -> str:
