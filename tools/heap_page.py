@@ -67,7 +67,7 @@ class Steps:
         self.lives: dict[int, int] = {}
         self.named: dict[bytes, tuple[int, int]] = {}
         self.steps: list[dict] = []
-        self.blocks = 0
+        self.blocks, self.is_too_much = 0, False
         self.places: dict[str, int] = {}
         self.keep(0, "", "The zone as it is made, before the first line.", [])
 
@@ -186,13 +186,11 @@ class Steps:
         if not self.is_asked:
             return
         zone = self.run.toolbox
+        self.blocks += len(zone.blocks)
+        self.is_too_much = self.is_too_much or len(self.steps) > MOST_STEPS or self.blocks > MOST_BLOCKS
+        if self.is_too_much:
+            return
         blocks = [self.block(at, block.size, block.owner) for at, block in zone.placed()]
-        self.blocks += len(blocks)
-        if len(self.steps) > MOST_STEPS or self.blocks > MOST_BLOCKS:
-            raise NoPage(
-                f"no page is made: it would have more than {MOST_STEPS} calls, or {MOST_BLOCKS} blocks in all maps; "
-                "make two scripts of it"
-            )
         events += self.moved(blocks)
         marks = [mark, *dict.fromkeys(kind for kind, _ in events)]
         self.steps.append(
@@ -250,9 +248,12 @@ def page(title: str, text: bytes, steps: Steps) -> str:
 
 
 def write(path: str, title: str, text: bytes, steps: Steps) -> None:
-    """Writes the page of a run."""
+    """Writes the page of a run, unless that has too much in it."""
+    if steps.is_too_much:
+        most = f"{MOST_STEPS} calls, or {MOST_BLOCKS} blocks in all maps"
+        raise NoPage(f"no page is made: it would have more than {most}; make two scripts of it")
     try:
-        with open(path, "w", encoding="utf-8") as file:
+        with open(path, "w", encoding="utf-8", errors="replace") as file:
             file.write(page(title, text, steps))
     except OSError as error:
         raise NoPage(f"{path}: can't be written: {error.strerror}") from error

@@ -150,7 +150,7 @@ def main(given: list[str]) -> int:
         return 3
     except (NotPlayed, heap_page.NoPage) as why:
         *status, said = why.args
-        print(f"tools/play.py: {said}", file=sys.stderr)
+        print(f"tools/play.py: {''.join(it if it.isprintable() else '?' for it in said)}", file=sys.stderr)
         return status[0] if status else 1
     except BrokenPipeError:
         # who reads may stop before the end

@@ -168,8 +168,8 @@ def wrong_refusals(folder):
         found = ran(script, *given)
         if found[0] != status or said not in found[2]:
             yield f"{' '.join(given)} ends with {found}"
-    status, _, said = ran(many, "--html", os.path.join(folder, "large"))
-    if status != 1 or "make two scripts" not in said:
+    status, printed, said = ran(many, "--html", os.path.join(folder, "large"))
+    if status != 1 or "make two scripts" not in said or printed.count("\n") != 60 + 4096:
         yield f"a page of many calls ends with {status}, and {said}"
     with open(script, encoding="utf-8") as it:
         if it.read() != "ZoneMap\n":
