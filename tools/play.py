@@ -22,7 +22,8 @@ TOP = os.path.dirname(os.path.dirname(os.path.abspath(__file__)))
 sys.path.append(os.path.join(TOP, "tests"))
 import heap_page  # noqa: E402
 from model.fork import MOST_BYTES  # noqa: E402
-from model.script import MOST_BYTES as MOST_OF_SCRIPT, Fault, Run, read_script  # noqa: E402
+from model.script import LACKING, Call, Fault, Run, read_script  # noqa: E402
+from model.script import MOST_BYTES as MOST_OF_SCRIPT  # noqa: E402
 from model.toolbox import Toolbox  # noqa: E402
 
 HEAD = re.compile(rb"(?:#.*\n)*?# macheap (.*)\n")
@@ -119,6 +120,9 @@ def played(given: list[str]) -> None:
     text = bytes_of(words().parse_args(given).script, MOST_OF_SCRIPT)
     asked = asked_for(given, text)
     lines = read_script(text)
+    lacking = sorted({it.name for it in lines if isinstance(it, Call)}.intersection(LACKING))
+    if lacking:
+        raise NotPlayed(1, f"the model has no {', '.join(lacking)}: run the script by macheap")
     if asked.html:
         heap_page.may_write(asked.html)
     run = Run(toolbox(asked))

@@ -14,8 +14,8 @@ import re
 import sys
 import tempfile
 
-from checks import runs, words
-from model.script import LACKING, Fault, Run, read_script
+from checks import runs, script_page, words
+from model.script import LACKING, OPERANDS, Fault, Run, read_script
 from model.toolbox import Toolbox
 from places import TOP
 
@@ -177,7 +177,7 @@ def wrong_refusals(folder):
 
 
 def main():
-    faults = [f"the model lacks {it}" for it in LACKING]
+    faults = [f"the model lacks {it}" for it in [*LACKING, *sorted(script_page.table() - OPERANDS.keys())]]
     with tempfile.TemporaryDirectory() as folder:
         faults += [*wrong_examples(), *wrong_texts(), *wrong_runs(), *wrong_pages(folder), *wrong_refusals(folder)]
     for it in faults:
