@@ -26,7 +26,7 @@ from model.script import LACKING, Call, Fault, Run, read_script  # noqa: E402
 from model.script import MOST_BYTES as MOST_OF_SCRIPT  # noqa: E402
 from model.toolbox import Toolbox  # noqa: E402
 
-HEAD = re.compile(rb"(?:#.*\n)*?# macheap (.*)\n")
+HEAD = re.compile(rb"(?:#.*\n)*?# macheap (--.*)\n")
 LEAST_ZONE, LEAST_BASE, LEAST_GROWTH = 1024, 4096, 16
 
 
