@@ -29,7 +29,7 @@ LINES = {
     "docs/FILES.md": 147,
     "docs/FORMAT.md": 78,
     "docs/SCRIPT.md": 266,
-    "docs/THEOREM.md": 192,
+    "docs/THEOREM.md": 195,
 }
 WIDTH = 100
 # the most words of all pages, code blocks aside
