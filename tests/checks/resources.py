@@ -15,12 +15,12 @@ import tempfile
 from checks import random_lines
 from checks.forks import Choices
 from checks.random_lines import Chooser
-from model.toolbox import RESOURCE_CALLS, Toolbox, journal_of, opened, shown_type
-from model.zone import CALLS, FLAG_CALLS, Refused
+from model.toolbox import ALL_CALLS, RESOURCE_CALLS, Toolbox, journal_of, opened, shown_type
+from model.zone import FLAG_CALLS, Refused
 
 # how often each call is made
 WEIGHTS = {
-    **dict.fromkeys([*CALLS, *FLAG_CALLS, "MemError", "ResError"], 1),
+    **dict.fromkeys([*ALL_CALLS, *FLAG_CALLS, "MemError", "ResError"], 1),
     **dict(NewHandle=9, DisposeHandle=5, SetHandleSize=4, Poke=8, Peek=8, EmptyHandle=4, HPurge=4, HUnlock=4, Return=4, gz=5, MaxMem=0.5),
     **dict(GetResource=14, Get1Resource=6, GetIndResource=6, LoadResource=9, AddResource=10, ChangedResource=9, WriteResource=5),
     **dict(UpdateResFile=4, CloseResFile=2, OpenResFile=4, UseResFile=4, SetResAttrs=4, SizeResource=4, GetResInfo=4, ReleaseResource=4),

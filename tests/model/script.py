@@ -6,9 +6,8 @@ from __future__ import annotations
 import re
 from typing import Iterator, NamedTuple
 
-from model.toolbox import Toolbox
+from model.toolbox import ALL_CALLS, Toolbox
 from model.zone import FLAG_CALLS, Refused
-from model.zone import CALLS as MODELLED
 
 MOST_BYTES, MOST_LINES, MOST_TOKENS, MOST_CALLS, MOST_NUMBER = 1048576, 65536, 26, 8, 0xFFFFFFFF
 # the calls by their operands: n a number, b bytes, i an id, t a type, in brackets what may be left out. A line may
@@ -36,7 +35,7 @@ OPERANDS = {
     for form, names in CALLS_BY_OPERANDS.items()
     for name in names.split()
 }
-LACKING = sorted(OPERANDS.keys() - MODELLED.keys() - FLAG_CALLS.keys() - {"MemError", "ResError"})
+LACKING = sorted(OPERANDS.keys() - ALL_CALLS.keys() - FLAG_CALLS.keys() - {"MemError", "ResError"})
 RELEASING = ("DisposeHandle", "DisposePtr", "EmptyHandle")
 KINDS = {
     "n": "a number up to 4294967295, or a name",

@@ -329,6 +329,9 @@ class Toolbox(Zone):
     def cur_res_file(self):
         return str(self.current)
 
+    def calls(self):
+        return ALL_CALLS
+
     def reply(self, name, operands):
         if name == "ResError":
             return f"{self.res_refused} 0"
@@ -367,4 +370,4 @@ RESOURCE_CALLS = {
     "UseResFile": Toolbox.use_res_file,
     "CurResFile": Toolbox.cur_res_file,
 }
-CALLS.update(RESOURCE_CALLS, DisposeHandle=Toolbox.dispose_handle)
+ALL_CALLS = {**CALLS, **RESOURCE_CALLS, "DisposeHandle": Toolbox.dispose_handle}

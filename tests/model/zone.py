@@ -278,7 +278,7 @@ class Zone:
             for name, number in calls:
                 if number not in protected:
                     try:
-                        CALLS[name](self, number)
+                        self.calls()[name](self, number)
                     except Refused:
                         pass
             if value == 0:
@@ -309,6 +309,10 @@ class Zone:
         number = self.slots.pop(0)
         self.live[number] = Owner(True, bytearray(contents))
         return address(number)
+
+    def calls(self):
+        """The calls that there are, by their names, but for those on flags and MemError."""
+        return CALLS
 
     # the calls: each gives its results, as they are printed
 
@@ -585,7 +589,7 @@ class Zone:
             return f"{self.refused} 0"
         self.asked = []
         try:
-            made = self.flag(name, *operands) if name in FLAG_CALLS else CALLS[name](self, *operands)
+            made = self.flag(name, *operands) if name in FLAG_CALLS else self.calls()[name](self, *operands)
         except Refused as refused:
             self.refused = refused.args[0]
             said = str(self.refused)
