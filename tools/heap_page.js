@@ -209,7 +209,8 @@ function drawCall(it) {
 // the script, each line that makes a call a button
 const buttons = new Map();
 function lineOf(text, at, step) {
-    const parts = [element("span", { class: "number" }, String(at + 1)), element("span", { class: "text" }, text || " ")];
+    const number = element("span", { class: "number" }, String(at + 1));
+    const parts = [number, element("span", { class: "text" }, text || " ")];
     if (step === undefined) return element("li", {}, element("div", { class: "still" }, ...parts));
     const named = { type: "button", class: steps[step].marks.join(" "), onclick: () => show(step) };
     buttons.set(step, element("button", named, ...parts));
