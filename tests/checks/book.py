@@ -72,7 +72,6 @@ def main():
     for it in faults:
         print(f"book: {it}")
     if not faults:
-        print(
-            f"book: {len(made.pieces)} definitions, {len(made.types)} types of the code, {len(page.links)} places linked"
-        )
+        count = f"{len(made.pieces)} definitions, {len(made.types)} types of the code"
+        print(f"book: {count}, {len(page.links)} places linked")
     return 1 if faults else 0

@@ -135,7 +135,7 @@ def made_page(folder, name, text):
 
 def wrong_pages(folder):
     """What is wrong with pages of hostile texts."""
-    plain = made_page(folder, "plain", "h = NewHandle 3\n")
+    plain = made_page(folder, "plain", "# macheap isn't asked for anything here\nh = NewHandle 3\n")
     for hostile in HOSTILE:
         name = hostile.replace("/", "\u2215") + hostile.replace("/", "")
         quoted = "".join(f"{ord(it):02X}" for it in hostile)
