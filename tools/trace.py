@@ -7,9 +7,9 @@
     tools/trace.py LOG --ignore FreeMem ..   leaves out the results of these traps, for a zone of another layout
 
 docs/EMULATORS.md has the format of a log. Handles and pointers have other addresses in the model: the script gives each
-a name. Compared are codes, sizes, states and room. Traps that a script has no call for, that work on addresses or on
-the stack, or in the system zone, are left out; the last line says how many. The exit status is 0 if all agree, 1 if
-not, 2 for bad words, 3 for a bad log.
+a name. Compared are codes, sizes, states and room. Traps that a script has no call for, that work on addresses, on the
+system zone or on another file than the first, are left out; the last line says how many. The exit status is 0 if all
+agree, 1 if not, 2 for bad words, 3 for a bad log.
 """
 from __future__ import annotations
 
@@ -22,12 +22,29 @@ from typing import NamedTuple
 
 import traps
 
-LINE = re.compile(r"\$?([0-9A-Fa-f]{4})((?: +\w+=\$?[0-9A-Fa-f]{1,8})*) *->((?: +\w+=\$?[0-9A-Fa-f]{1,8})*)")
-REGISTER = re.compile(r"(\w+)=\$?([0-9A-Fa-f]+)")
+VALUE = r" +(?:stack=(?:[0-9A-Fa-f]{2})*|(?!stack=)\w+=\$?[0-9A-Fa-f]{1,8})(?= |$)"
+LINE = re.compile(rf"\$?([0-9A-Fa-f]{{4}})((?:{VALUE})*) *->((?:{VALUE})*)")
+STACK = re.compile(r"stack=([0-9A-Fa-f]*)")
+REGISTER = re.compile(r"(?!stack=)(?<= )(\w+)=\$?([0-9A-Fa-f]+)")
 ZONE = re.compile(r"zone \$?([0-9A-Fa-f]{1,8}) (\d{1,10}) (\d{1,10}) (24|32)")
 MOST_BYTES = 16777216
 # the calls of a script that have other names than their traps
-CALLS = {"ReallocHandle": "ReallocateHandle", "ResrvMem": "ReserveMem"}
+CALLS = {
+    "ReallocHandle": "ReallocateHandle",
+    "ResrvMem": "ReserveMem",
+    "Get1IxResource": "GetIndResource",
+    "Count1Types": "CountTypes",
+    "Count1Resources": "CountResources",
+    "SizeRsrc": "SizeResource",
+    "RmveResource": "RemoveResource",
+}
+# the traps on the stack that a script has a call for, which looks where they do
+ON_FILES = {
+    *("GetResource", "Get1Resource", "Get1IxResource", "Count1Types", "Count1Resources", "LoadResource"),
+    *("ReleaseResource", "DetachResource", "AddResource", "RmveResource", "ChangedResource", "WriteResource"),
+    *("UpdateResFile", "SetResLoad", "GetResAttrs", "SetResAttrs", "SizeRsrc"),
+}
+SIZES = {"MH_WORD": 2, "MH_BOOLEAN": 2, "MH_LONG": 4, "MH_TEXT": 4}
 # what a script has no call for, or what works on addresses: a log has no address of a handle's contents
 LEFT_OUT = {"SetGrowZone", "BlockMove", "RecoverHandle", "PtrAndHand"}
 # the operands that name a block, and the results that are a new one
@@ -45,10 +62,11 @@ class BadLog(Exception):
 
 
 class Expected(NamedTuple):
-    """What the log has after a trap: the code, and the numbers of results."""
+    """What the log has after a trap: the code, if it says that; the numbers of results; whether a handle is nil."""
 
-    code: int
+    code: int | None
     numbers: list[int]
+    is_nil: bool | None = None
 
 
 class Step(NamedTuple):
@@ -66,12 +84,33 @@ def signed(number: int) -> int:
     return number - (1 << 32) if number >> 31 else number
 
 
+def key_of(place: traps.Place) -> str:
+    """Where an operand or a result is: a register, or its name on the stack."""
+    return f"the stack ({place.names[0]})" if place.place in SIZES else place.place[3:].removesuffix("_BYTE")
+
+
+def on_stack(places: list[traps.Place], digits: str) -> dict[str, int]:
+    """The values of places on the stack, the last of which is at its top, as far as there are bytes."""
+    found, at = {}, 0
+    for it in reversed(places):
+        part = digits[at : at + 2 * SIZES.get(it.place, 0)]
+        at += 2 * SIZES.get(it.place, 0)
+        if part and len(part) == 2 * SIZES[it.place]:
+            found[key_of(it)] = int(part, 16)
+    return found
+
+
+def values(text: str, places: list[traps.Place]) -> dict[str, int]:
+    """The registers of one side of a line, and what is on the stack there, in these places."""
+    stack = STACK.search(text)
+    registers = {name: int(digits, 16) for name, digits in REGISTER.findall(text)}
+    return {**registers, **(on_stack(places, stack[1]) if stack else {})}
+
+
 def left_out(word: int, row: traps.Trap) -> str | None:
     """What a trap is of that no line of a script is made of, if so."""
-    on_stack = any(it.place not in ("MH_A0", "MH_A1", "MH_D0", "MH_D0_BYTE") for it in [*row.operands, *row.results])
-    if on_stack:
-        return "traps on the stack"
-    if row.name in LEFT_OUT:
+    is_on_stack = any(it.place not in ("MH_A0", "MH_A1", "MH_D0", "MH_D0_BYTE") for it in [*row.operands, *row.results])
+    if row.name in LEFT_OUT or (is_on_stack and row.name not in ON_FILES):
         return row.name
     return "the system zone" if not word & ON_STACK and word & SYSTEM else None
 
@@ -86,6 +125,7 @@ class Trace:
         self.counts: dict[str, int] = {}
         self.steps: list[Step] = []
         self.left_out: dict[str, int] = {}
+        self.file: int | None = None
 
     def row(self, at: int, word: int) -> traps.Trap:
         """The row of a trap's word."""
@@ -98,49 +138,75 @@ class Trace:
         self.counts[letter] = self.counts.get(letter, 0) + 1
         return f"{letter}{self.counts[letter]}"
 
-    def operand(self, row: traps.Trap, name: str, value: int) -> str:
+    def operand(self, name: str, value: int) -> str:
         """An operand as a script has it."""
         if name in BLOCKS:
             return self.names.get(value, f"${value:08X}" if value else "0")
-        return str(value & 0xFF if name == "state" else value)
+        if name == "kind":
+            return f'$"{value:08X}"'
+        if name == "id":
+            return str(value - 0x10000 if value & 0x8000 else value)
+        return str({"state": value & 0xFF, "load": value >> 8}.get(name, value))
 
     def call(self, at: int, row: traps.Trap, before: dict[str, int]) -> tuple[str, list[str]]:
-        """The name and the operands of the call that a trap makes."""
+        """The name and the operands of the call that a trap makes; it leaves out a resource's name, and the file."""
         name, operands = CALLS.get(row.name, row.name), []
-        for place, (operand, *_) in ((it.place, it.names) for it in row.operands):
-            register = place.removeprefix("MH_").removesuffix("_BYTE")
-            if register not in before:
-                raise BadLog(at, f"{row.name} takes {operand} in {register}, which isn't there before the trap")
-            operands.append(self.operand(row, operand, before[register]))
+        for it in row.operands:
+            if key_of(it) not in before:
+                raise BadLog(at, f"{row.name} takes {it.names[0]} in {key_of(it)}, which isn't there before the trap")
+            if it.names[0] not in ("name", "file"):
+                operands.append(self.operand(it.names[0], before[key_of(it)]))
         if row.name in OF_SIZE and before["A0"] not in self.names:
             return OF_SIZE[row.name], operands[1:]
         return name, operands
 
     def expected(self, at: int, row: traps.Trap, after: dict[str, int]) -> Expected:
-        """The code and the numbers that a trap left."""
-        needed = {it.place.removeprefix("MH_").removesuffix("_BYTE") for it in row.results} | {"D0"}
+        """What a trap left."""
+        of_files = row.name in ON_FILES
+        needed = {key_of(it) for it in row.results} | (set() if of_files else {"D0"})
         if missing := sorted(needed - after.keys()):
             raise BadLog(at, f"{row.name} leaves something in {missing[0]}, which isn't there after the trap")
-        in_d0 = any(it.place in ("MH_D0", "MH_D0_BYTE") for it in row.results)
-        code = min(signed(after["D0"]), 0) if in_d0 else signed(after["D0"])
-        places = [(it.place, it.names[0]) for it in row.results if it.names[0] not in (*BLOCKS, "new_handle")]
-        numbers = [after["A0"] if place == "MH_A0" else after["D0"] for place, _ in places]
-        return Expected(code, [] if code else [it & 0xFF if row.name == "HGetState" else it for it in numbers])
+        if of_files:
+            code = after.get("ResErr")
+            code = code if code is None else signed(code | (0xFFFF0000 if code & 0x8000 else 0))
+        else:
+            in_d0 = any(it.place in ("MH_D0", "MH_D0_BYTE") for it in row.results)
+            code = min(signed(after["D0"]), 0) if in_d0 else signed(after["D0"])
+        numbers = [after[key_of(it)] for it in row.results if it.names[0] not in (*BLOCKS, "new_handle")]
+        nil = [after[key_of(it)] == 0 for it in row.results if of_files and it.names[0] == "handle"]
+        shown_numbers = [it & 0xFF if row.name == "HGetState" else it for it in numbers]
+        return Expected(code, [] if code else shown_numbers, nil[0] if nil else None)
 
-    def trap(self, at: int, text: str, word: int, before: dict[str, int], after: dict[str, int]) -> None:
+    def assigned(self, row: traps.Trap, expected: Expected, after: dict[str, int]) -> str:
+        """The name that the script gives to a trap's handle or pointer, if it has one."""
+        if row.name in MADE and expected.code == 0:
+            self.names[after["A0"]] = self.new_name(MADE[row.name])
+            return f"{self.names[after['A0']]} = "
+        if expected.is_nil is False:
+            number = after[key_of(row.results[0])]
+            if number not in self.names:
+                self.names[number] = self.new_name("r")
+            return f"{self.names[number]} = "
+        return ""
+
+    def leaves_out(self, word: int, row: traps.Trap, before: dict[str, int]) -> str | None:
+        """What a trap is of that isn't in the script, if so; the first file that is named is the one of the script."""
+        file = next((before.get(key_of(it)) for it in row.operands if it.names[0] == "file"), None)
+        self.file = file if self.file is None else self.file
+        return left_out(word, row) or ("another file" if file != self.file and file is not None else None)
+
+    def trap(self, at: int, text: str, word: int, before: str, after: str) -> None:
         """Adds what a trap makes."""
         row = self.row(at, word)
-        why = left_out(word, row)
+        was, left = (values(it, places) for it, places in ((before, row.operands), (after, row.results)))
+        why = self.leaves_out(word, row, was)
         if why:
             self.left_out[why] = self.left_out.get(why, 0) + 1
             return
-        name, operands = self.call(at, row, before)
-        expected = self.expected(at, row, after)
-        assigned = ""
-        if row.name in MADE and expected.code == 0:
-            self.names[after["A0"]] = self.new_name(MADE[row.name])
-            assigned = f"{self.names[after['A0']]} = "
-        self.steps.append(Step(at, text, " ".join([f"{assigned}{name}", *operands]), expected, row.name))
+        name, operands = self.call(at, row, was)
+        expected = self.expected(at, row, left)
+        line = f"{self.assigned(row, expected, left)}{name}"
+        self.steps.append(Step(at, text, " ".join([line, *operands]), expected, row.name))
 
     def add(self, at: int, text: str) -> None:
         """Adds a line of the log."""
@@ -149,10 +215,7 @@ class Trace:
             words = ("--base", str(int(zone[1], 16)), "--zone", zone[2], "--limit", zone[3], "--mode", zone[4])
             self.options = list(words)
         elif found:
-            registers = [
-                {name: int(digits, 16) for name, digits in REGISTER.findall(it)} for it in (found[2], found[3])
-            ]
-            self.trap(at, text, int(found[1], 16), *registers)
+            self.trap(at, text, int(found[1], 16), found[2], found[3])
         else:
             raise BadLog(at, "a line is a trap, as `A122 D0=64 -> A0=10003C D0=0`, or first `zone 100000 4096 4096 24`")
 
@@ -189,7 +252,16 @@ def of_model(words: list[str]) -> Expected:
 
 
 def shown(it: Expected) -> str:
-    return f"code {it.code}" + "".join(f", {number}" for number in it.numbers)
+    nil = {True: ["nil"], False: ["a handle"], None: []}[it.is_nil]
+    code = [] if it.code is None else [f"code {it.code}"]
+    return ", ".join([*code, *nil, *map(str, it.numbers)]) or "no code"
+
+
+def agree(model: Expected, wanted: Expected) -> bool:
+    """Whether the model's reply is what the log has, as far as the log says it."""
+    codes = wanted.code is None or wanted.code == model.code
+    nil = wanted.is_nil is None or wanted.is_nil == (model.code != 0)
+    return codes and nil and (wanted.is_nil is not None or model.numbers == wanted.numbers)
 
 
 def difference(trace: Trace, found: dict[int, list[str]], ignored: list[str]) -> str | None:
@@ -199,7 +271,7 @@ def difference(trace: Trace, found: dict[int, list[str]], ignored: list[str]) ->
         wanted = step.expected
         if step.name in ignored:
             model, wanted = model._replace(numbers=[]), wanted._replace(numbers=[])
-        if model != wanted:
+        if not agree(model, wanted):
             return (
                 f"line {step.at} of the log: {step.said}\n  in the script, line {number}: {step.line}\n"
                 f"  the log has   {shown(wanted)}\n  the model has {shown(model)}"

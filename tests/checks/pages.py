@@ -25,7 +25,7 @@ LINES = {
     "docs/DECISIONS.md": 60,
     "docs/DESIGN.md": 198,
     "docs/DIFFERENCES.md": 88,
-    "docs/EMULATORS.md": 123,
+    "docs/EMULATORS.md": 125,
     "docs/FILES.md": 147,
     "docs/FORMAT.md": 78,
     "docs/SCRIPT.md": 266,
