@@ -3,10 +3,9 @@ use Rattle.std.proofs.Common.{◌≡◌, ℕ, ◌==◌, Bool, true, false, List,
 use Rattle.std.specs.Prelude.{not, ◌&&◌}
 use Rattle.std.specs.List.{flat_map, list_all}
 use Rattle.std.proofs.lemmas.Bool.{and_parts}
-use Rattle.html_text.specs.declared.tag.Attribute.{Attribute}
 use Rattle.html_text.specs.declared.tag.AttributeName.{AttributeName}
 use Rattle.html_text.specs.declared.tag.Tag.{Tag}
-use Rattle.html_text.specs.Texts.{escaped, html_text, attribute_text, attributes_text, name_of, tag_name, start_tag, end_tag}
+use Rattle.html_text.specs.Texts.{Pair, escaped, html_text, attribute_text, attributes_text, name_of, tag_name, start_tag, end_tag}
 use Rattle.html_text.specs.Reader.{tags_in, text_in, tags_of, bare_start, bare_end, IsNoMarkup, IsOneTag}
 
 -- a byte of a text is shown
@@ -63,8 +62,8 @@ attribute_is_name : (it : AttributeName) → list_all is_of_name (name_of it) �
 attribute_is_name it = grind arith
 
 -- an attribute without its value
-abbrev bare : Attribute → List ℕ
-bare it = 32 ∷ (name_of it.name ++ codes "=\"\"")
+abbrev bare : Pair → List ℕ
+bare it = 32 ∷ (name_of it.0 ++ codes "=\"\"")
 
 value_is_read : (value tag rest : List ℕ) → tags_in (Some tag) false (codes "=\"" ++ (html_text value ++ (34 ∷ rest))) ≡ tags_in (Some (tag ++ codes "=\"\"")) false rest
 unfolding tags_in
@@ -72,23 +71,23 @@ value_is_read value tag rest =
     text_in_value value ((tag ++ 61 ∷ []) ++ 34 ∷ []) (34 ∷ rest)
     ∙ ap (λ all. tags_in (Some all) false rest) (append_assoc (tag ++ 61 ∷ []) (34 ∷ []) (34 ∷ []) ∙ append_assoc tag (61 ∷ []) (34 ∷ 34 ∷ []))
 
-attribute_is_read : (it : Attribute) (tag rest : List ℕ) → tags_in (Some tag) false (attribute_text it ++ rest) ≡ tags_in (Some (tag ++ bare it)) false rest
+attribute_is_read : (it : Pair) (tag rest : List ℕ) → tags_in (Some tag) false (attribute_text it ++ rest) ≡ tags_in (Some (tag ++ bare it)) false rest
 attribute_is_read it tag rest =
-    let name = name_of it.name in
-    ap (λ all. tags_in (Some tag) false (32 ∷ all)) (append_assoc name (codes "=\"" ++ (html_text it.value.now ++ 34 ∷ [])) rest
-    ∙ ap (λ all. name ++ (codes "=\"" ++ all)) (append_assoc (html_text it.value.now) (34 ∷ []) rest))
-    ∙ byte_of_name 32 tag (name ++ (codes "=\"" ++ (html_text it.value.now ++ 34 ∷ rest))) refl
-    ∙ name_is_read name (tag ++ 32 ∷ []) (codes "=\"" ++ (html_text it.value.now ++ 34 ∷ rest)) (attribute_is_name it.name)
-    ∙ value_is_read it.value.now ((tag ++ 32 ∷ []) ++ name) rest
+    let name = name_of it.0 in
+    ap (λ all. tags_in (Some tag) false (32 ∷ all)) (append_assoc name (codes "=\"" ++ (html_text it.1 ++ 34 ∷ [])) rest
+    ∙ ap (λ all. name ++ (codes "=\"" ++ all)) (append_assoc (html_text it.1) (34 ∷ []) rest))
+    ∙ byte_of_name 32 tag (name ++ (codes "=\"" ++ (html_text it.1 ++ 34 ∷ rest))) refl
+    ∙ name_is_read name (tag ++ 32 ∷ []) (codes "=\"" ++ (html_text it.1 ++ 34 ∷ rest)) (attribute_is_name it.0)
+    ∙ value_is_read it.1 ((tag ++ 32 ∷ []) ++ name) rest
     ∙ ap (λ all. tags_in (Some all) false rest) (append_assoc (tag ++ 32 ∷ []) name (codes "=\"\"") ∙ append_assoc tag (32 ∷ []) (name ++ codes "=\"\""))
 
-attributes_are_read : (all : List Attribute) (tag rest : List ℕ) → tags_in (Some tag) false (attributes_text all ++ rest) ≡ tags_in (Some (tag ++ flat_map bare all)) false rest
+attributes_are_read : (all : List Pair) (tag rest : List ℕ) → tags_in (Some tag) false (attributes_text all ++ rest) ≡ tags_in (Some (tag ++ flat_map bare all)) false rest
 attributes_are_read [] tag rest = ap (λ all. tags_in (Some all) false rest) (sym (append-nil tag))
 attributes_are_read (it ∷ all) tag rest =
     ap (tags_in (Some tag) false) (append_assoc (attribute_text it) (attributes_text all) rest) ∙ attribute_is_read it tag (attributes_text all ++ rest)
     ∙ attributes_are_read all (tag ++ bare it) rest ∙ ap (λ all. tags_in (Some all) false rest) (append_assoc tag (bare it) (flat_map bare all))
 
-start_is_read : (it : Tag) (all : List Attribute) (rest : List ℕ) → tags_of (start_tag it all ++ rest) ≡ bare_start it all ∷ tags_of rest
+start_is_read : (it : Tag) (all : List Pair) (rest : List ℕ) → tags_of (start_tag it all ++ rest) ≡ bare_start it all ∷ tags_of rest
 unfolding tags_in
 start_is_read it all rest =
     ap (tags_in (Some []) false) (append_assoc (tag_name it) (attributes_text all ++ 62 ∷ []) rest) ∙ name_is_read (tag_name it) [] ((attributes_text all ++ 62 ∷ []) ++ rest) (element_is_name it)

@@ -1,9 +1,8 @@
 -- How a page is read. (HTML Living Standard, 13.2.5: tokenization.)
 use Rattle.std.specs.Prelude.{◌≡◌, ℕ, ◌==◌, Bool, true, false, not, if◌then◌else◌, List, [], ◌∷◌, ◌++◌, codes, bytes_eq, Option, None, Some}
 use Rattle.std.specs.List.{flat_map}
-use Rattle.html_text.specs.declared.tag.Attribute.{Attribute}
 use Rattle.html_text.specs.declared.tag.Tag.{Tag}
-use Rattle.html_text.specs.Texts.{end_tag, html_text, name_of, start_tag, tag_name}
+use Rattle.html_text.specs.Texts.{Pair, end_tag, html_text, name_of, start_tag, tag_name}
 
 -- The tags of a page, without the values in them. A tag is from `<` to the next `>` that is in no value, and a value is from
 -- one `"` to the next.
@@ -36,8 +35,8 @@ text_in None (byte ∷ rest) = if byte == 38 then text_in (Some []) rest else by
 text_in (Some name) (byte ∷ rest) = if byte == 59 then referred name ++ text_in None rest else text_in (Some (name ++ byte ∷ [])) rest
 
 -- a tag without the values in it
-abbrev pub bare_start : Tag → List Attribute → List ℕ
-bare_start tag all = tag_name tag ++ flat_map (λ (it : Attribute). 32 ∷ (name_of it.name ++ codes "=\"\"")) all
+abbrev pub bare_start : Tag → List Pair → List ℕ
+bare_start tag all = tag_name tag ++ flat_map (λ (it : Pair). 32 ∷ (name_of it.0 ++ codes "=\"\"")) all
 
 abbrev pub bare_end : Tag → List ℕ
 bare_end tag = 47 ∷ tag_name tag
@@ -49,5 +48,5 @@ pub record IsNoMarkup : Type 0 where
 
 -- A tag is that tag alone, whatever its values are.
 pub record IsOneTag : Type 0 where
-  pub start : (tag : Tag) (all : List Attribute) (rest : List ℕ) → tags_of (start_tag tag all ++ rest) ≡ bare_start tag all ∷ tags_of rest
+  pub start : (tag : Tag) (all : List Pair) (rest : List ℕ) → tags_of (start_tag tag all ++ rest) ≡ bare_start tag all ∷ tags_of rest
   pub end : (tag : Tag) (rest : List ℕ) → tags_of (end_tag tag ++ rest) ≡ bare_end tag ∷ tags_of rest

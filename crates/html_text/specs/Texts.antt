@@ -46,15 +46,22 @@ name_of attribute_name.Id = codes "id"
 name_of attribute_name.Source = codes "src"
 name_of attribute_name.Width = codes "width"
 
--- an attribute with its value
-abbrev pub attribute_text : Attribute → List ℕ
-attribute_text it = 32 ∷ (name_of it.name ++ (codes "=\"" ++ (html_text it.value.now ++ 34 ∷ [])))
+-- an attribute's name, and its value
+abbrev pub Pair : Type 0
+Pair = AttributeName × List ℕ
 
-abbrev pub attributes_text : List Attribute → List ℕ
+abbrev pub pair_of : Attribute → Pair
+pair_of it = (it.name, it.value.now)
+
+-- an attribute with its value
+abbrev pub attribute_text : Pair → List ℕ
+attribute_text it = 32 ∷ (name_of it.0 ++ (codes "=\"" ++ (html_text it.1 ++ 34 ∷ [])))
+
+abbrev pub attributes_text : List Pair → List ℕ
 attributes_text all = flat_map attribute_text all
 
 -- the tag at which an element begins
-abbrev pub start_tag : Tag → List Attribute → List ℕ
+abbrev pub start_tag : Tag → List Pair → List ℕ
 start_tag tag all = 60 ∷ (tag_name tag ++ (attributes_text all ++ 62 ∷ []))
 
 -- and the one at which it ends

@@ -1,7 +1,7 @@
 //! Tags, with their attributes.
 
-ghost use Rattle.std.specs.Prelude.{◌≡◌, ◌++◌, OnOk};
-ghost use Rattle.html_text.specs.Texts.{attribute_text, attributes_text, end_tag, name_of, start_tag, tag_name};
+ghost use Rattle.std.specs.Prelude.{◌≡◌, ◌++◌, OnOk, map};
+ghost use Rattle.html_text.specs.Texts.{attribute_text, attributes_text, end_tag, name_of, pair_of, start_tag, tag_name};
 
 use crate::text::push_text;
 use std::alloc::AllocError;
@@ -85,7 +85,7 @@ pub struct Attribute<'a> {
 
 /// Adds an attribute.
 fn push_attribute(page: &mut Vec<u8>, attribute: &Attribute<'_>) -> Result<(), AllocError>
-    ensures { OnOk result (page.new.items ≡ page.old.items ++ attribute_text attribute.now) }
+    ensures { OnOk result (page.new.items ≡ page.old.items ++ attribute_text (pair_of attribute.now)) }
 {
     page.push(b' ')?;
     page.extend_from_slice(attribute.name.name().as_bytes())?;
@@ -97,7 +97,7 @@ fn push_attribute(page: &mut Vec<u8>, attribute: &Attribute<'_>) -> Result<(), A
 
 /// Adds attributes.
 fn push_attributes(page: &mut Vec<u8>, attributes: &[Attribute<'_>]) -> Result<(), AllocError>
-    ensures { OnOk result (page.new.items ≡ page.old.items ++ attributes_text attributes.now) }
+    ensures { OnOk result (page.new.items ≡ page.old.items ++ attributes_text (map pair_of attributes.now)) }
 {
     for attribute in attributes {
         push_attribute(page, attribute)?;
@@ -112,7 +112,7 @@ pub fn push_start(
     tag: Tag,
     attributes: &[Attribute<'_>],
 ) -> Result<(), AllocError>
-    ensures { OnOk result (page.new.items ≡ page.old.items ++ start_tag tag attributes.now) }
+    ensures { OnOk result (page.new.items ≡ page.old.items ++ start_tag tag (map pair_of attributes.now)) }
 {
     page.push(b'<')?;
     page.extend_from_slice(tag.name().as_bytes())?;
