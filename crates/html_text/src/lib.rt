@@ -6,5 +6,5 @@ pub mod laws;
 mod tag;
 mod text;
 
-pub use tag::{Attribute, Tag, push_end, push_start};
+pub use tag::{Attribute, AttributeName, Tag, push_end, push_start};
 pub use text::push_text;
