@@ -6,7 +6,7 @@ pub(crate) const HEAD: &str = "\
 <html lang=\"en\">
 <head>
 <meta charset=\"utf-8\">
-<meta http-equiv=\"Content-Security-Policy\" content=\"default-src 'none'; img-src data:; style-src 'sha256-LDKGT54OLXow/VwXUV5ErgfHbulMc7iS5wJ2HUilBKc='; script-src 'sha256-ERiscKs4canMJMt6U662YXev/OlDKGT+H3sDI91FqHQ='\">
+<meta http-equiv=\"Content-Security-Policy\" content=\"default-src 'none'; img-src data:; style-src 'sha256-rfWUss+4BH4wKQ7C3vX02pjtF6W7QftxjmrZ3/BopCw='; script-src 'sha256-ERiscKs4canMJMt6U662YXev/OlDKGT+H3sDI91FqHQ='\">
 <meta name=\"viewport\" content=\"width=device-width, initial-scale=1\">
 <title>Resources of old files</title>
 <style>:root { color-scheme: light dark; --ink: #1c1c1e; --paper: #fbfaf7; --card: #fff; --line: #d9d6cf; --quiet: #5d5a54; --light: #fff; --dark: #d0cec8; }
@@ -20,7 +20,7 @@ input, select { font: inherit; color: inherit; background: var(--card); border: 
 output { margin-left: auto; color: var(--quiet); }
 section { display: grid; grid-template-columns: repeat(auto-fill, minmax(min(11rem, 100%), 1fr)); gap: .75rem; padding: 1rem; }
 section > h2, section > p { grid-column: 1 / -1; margin: 0; overflow-wrap: anywhere; }
-section > p { color: var(--quiet); }
+section > p { color: var(--quiet); white-space: pre-line; }
 h2 { font-size: 1.25rem; }
 article { min-width: 0; padding: .6rem; background: var(--card); border: 1px solid var(--line); border-radius: 6px; }
 article:has(pre):not(:has(details:not([open]))) { grid-column: 1 / -1; }
