@@ -6,7 +6,7 @@ pub(crate) const HEAD: &str = "\
 <html lang=\"en\">
 <head>
 <meta charset=\"utf-8\">
-<meta http-equiv=\"Content-Security-Policy\" content=\"default-src 'none'; img-src data:; style-src 'sha256-rfWUss+4BH4wKQ7C3vX02pjtF6W7QftxjmrZ3/BopCw='; script-src 'sha256-ERiscKs4canMJMt6U662YXev/OlDKGT+H3sDI91FqHQ='\">
+<meta http-equiv=\"Content-Security-Policy\" content=\"default-src 'none'; img-src data:; style-src 'sha256-HRNiSJpf0A4ER59a+kEaVGfSNp/m77gPNvGiVt5+NiI='; script-src 'sha256-ERiscKs4canMJMt6U662YXev/OlDKGT+H3sDI91FqHQ='\">
 <meta name=\"viewport\" content=\"width=device-width, initial-scale=1\">
 <title>Resources of old files</title>
 <style>:root { color-scheme: light dark; --ink: #1c1c1e; --paper: #fbfaf7; --card: #fff; --line: #d9d6cf; --quiet: #5d5a54; --light: #fff; --dark: #d0cec8; }
@@ -14,11 +14,12 @@ pub(crate) const HEAD: &str = "\
 * { box-sizing: border-box; }
 body { margin: 0; background: var(--paper); color: var(--ink); font: 15px/1.45 system-ui, sans-serif; }
 header { position: sticky; top: 0; z-index: 1; display: flex; flex-wrap: wrap; gap: .5rem 1.25rem; align-items: center; padding: .6rem 1rem; background: var(--paper); border-bottom: 1px solid var(--line); }
+@media (max-width: 600px) { header { position: static; } }
 h1 { margin: 0; font-size: 1.1rem; }
 label { display: flex; gap: .4rem; align-items: center; color: var(--quiet); }
 input, select { font: inherit; color: inherit; background: var(--card); border: 1px solid var(--line); border-radius: 4px; padding: .25rem .4rem; max-width: 100%; }
 output { margin-left: auto; color: var(--quiet); }
-section { display: grid; grid-template-columns: repeat(auto-fill, minmax(min(11rem, 100%), 1fr)); gap: .75rem; padding: 1rem; }
+section { display: grid; grid-template-columns: repeat(auto-fill, minmax(min(9rem, 100%), 1fr)); gap: .75rem; padding: 1rem; }
 section > h2, section > p { grid-column: 1 / -1; margin: 0; overflow-wrap: anywhere; }
 section > p { color: var(--quiet); white-space: pre-line; }
 h2 { font-size: 1.25rem; }
