@@ -85,7 +85,7 @@ fn push_version(text: &mut String, version: &Version<'_>) -> Result<(), AllocErr
 }
 
 /// Whether the resources of a type are shown as text if nothing else is asked for.
-pub(crate) fn is_text(row: &Row) -> bool
+pub fn is_text(row: &Row) -> bool
     ensures { result ≡ is_text row.now.kind }
 {
     matches!(&row.kind.bytes(), b"STR " | b"STR#" | b"TEXT" | b"vers")
@@ -106,7 +106,7 @@ pub(crate) fn ends_early(alloc: Global, row: &Row) -> Result<bool, AllocError>
 
 /// Adds a resource as text: its strings, its version, or all its bytes as MacRoman. False where it ends before its
 /// strings do, and nothing is added.
-pub(crate) fn push_text(alloc: Global, text: &mut String, row: &Row) -> Result<bool, AllocError>
+pub fn push_text(alloc: Global, text: &mut String, row: &Row) -> Result<bool, AllocError>
     ensures { IfOk result (λ is_shown. is_shown ≡ false → string_bytes text.new ≡ string_bytes text.old) }
 {
     let bytes = row.datum.as_slice();
@@ -167,7 +167,7 @@ fn push_line(text: &mut String, at: usize, bytes: &[u8]) -> Result<(), AllocErro
 }
 
 /// Adds bytes in hexadecimal digits, sixteen to a line.
-pub(crate) fn push_hex(text: &mut String, bytes: &[u8]) -> Result<(), AllocError> {
+pub fn push_hex(text: &mut String, bytes: &[u8]) -> Result<(), AllocError> {
     for (line, bytes) in bytes.chunks(LINE).enumerate() {
         push_line(text, line.saturating_mul(LINE), bytes)?;
     }
@@ -210,7 +210,7 @@ fn drawn_as(
 }
 
 /// The PNG file of a resource, or None where it is no picture.
-pub(crate) fn png_of(alloc: Global, rows: &[Row], row: &Row) -> Result<Option<Vec<u8>>, AllocError>
+pub fn png_of(alloc: Global, rows: &[Row], row: &Row) -> Result<Option<Vec<u8>>, AllocError>
     ensures { IfOk result (λ file. option_map (λ bytes. bytes.items) file ≡ picture_file rows.now row.now) }
 {
     match drawn_as(alloc, rows, row, kind_of(row.kind.bytes()))? {

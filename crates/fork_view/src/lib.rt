@@ -1,7 +1,7 @@
 //! Resources shown to people, and unpacked to a folder.
 #![tactic(auto)]
 
-mod form;
+pub mod form;
 mod manifest;
 pub mod unpack;
 mod view;

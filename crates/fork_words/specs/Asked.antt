@@ -28,6 +28,7 @@ use Rattle.fork_words.specs.Sizes.{IsLimit}
 use Rattle.fork_words.specs.declared.asked.Asked.{Asked}
 use Rattle.fork_words.specs.declared.asked.Asked.TheVariants as asked
 use Rattle.fork_words.specs.declared.asked.Command.{Command}
+use Rattle.fork_words.specs.declared.asked.Paging.{Paging}
 use Rattle.fork_words.specs.declared.asked.Reporting.{Reporting}
 use Rattle.fork_words.specs.declared.asked.Salvage.{Salvage}
 use Rattle.fork_words.specs.declared.asked.Salvage.TheVariants as salvage
@@ -126,6 +127,11 @@ pub record IsUnpacking (found : Found) (unpacking : Unpacking) (file : List ℕ)
   pub folder : unpacking.folder.now ≡ word_of found (codes "folder")
   pub source : file ≡ word_of found (codes "file")
 
+-- what `page` asks for
+pub record IsPaging (found : Found) (asked : Paging) : Type 0 where
+  pub files : texts_of asked.files.items ≡ words_of found (codes "file")
+  pub output : text_of asked.output ≡ first_value found (codes "output")
+
 -- what a command with these words asks for
 abbrev pub Asks : List ℕ → Found → Asked → Type 0
 Asks command found (asked.Show showing) = IsShowing command found showing
@@ -133,6 +139,7 @@ Asks command found (asked.Report reporting) = IsReporting command found reportin
 Asks command found (asked.Salvage salvaging) = (command ≡ codes "salvage") × IsSalvaging found salvaging
 Asks command found (asked.View viewing) = (command ≡ codes "show") × IsViewing found viewing
 Asks command found (asked.Unpack unpacking file) = (command ≡ codes "unpack") × IsUnpacking found unpacking file.now
+Asks command found (asked.Page paging) = (command ≡ codes "page") × IsPaging found paging
 Asks command found (asked.Change work) = AsksFor command found work
 Asks command found (asked.Tell told) = ⊥
 

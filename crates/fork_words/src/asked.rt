@@ -79,6 +79,13 @@ pub struct Viewing<'a> {
     pub output: Option<&'a str>,
 }
 
+/// A page that shows what these files have, on the standard output or in a file of this name.
+#[derive(Drop)]
+pub struct Paging<'a> {
+    pub files: Vec<&'a str>,
+    pub output: Option<&'a str>,
+}
+
 /// What the words ask for.
 #[derive(Drop)]
 pub enum Asked<'a> {
@@ -95,6 +102,8 @@ pub enum Asked<'a> {
         unpacking: Unpacking<'a>,
         file: &'a str,
     },
+    /// To write a page that shows what files have.
+    Page(Paging<'a>),
     /// To change files, or to compare them.
     Change(Work<'a>),
     /// To write this text: the help, or the version.
@@ -188,6 +197,7 @@ fn asked_for<'a>(alloc: Global, name: &str, matches: &ArgMatches<'a>) -> Result<
         "salvage" => Ok(asked_to_salvage(matches)),
         "show" => asked_to_view(alloc, matches),
         "unpack" => asked_to_unpack(alloc, matches),
+        "page" => asked_for_page(alloc, matches),
         name => Ok(Asked::Change(work_of(alloc, name, matches)?)),
     }
 }
@@ -432,6 +442,19 @@ fn asked_to_unpack<'a>(alloc: Global, matches: &ArgMatches<'a>) -> Result<Asked<
         },
         file: word(matches, "file"),
     })
+}
+
+/// What `page` asks for.
+fn asked_for_page<'a>(alloc: Global, matches: &ArgMatches<'a>) -> Result<Asked<'a>, NotAsked>
+    ensures asked { IfOk result (Asks (codes "page") (found_of matches.now)) }
+    ensures fit { IfOk result IsFit }
+    ensures fault { IfErr result IsFault }
+{
+    let files = files_named(alloc, matches)?;
+    Ok(Asked::Page(Paging {
+        files,
+        output: matches.get_str("output"),
+    }))
 }
 
 /// The types that `-t` names.

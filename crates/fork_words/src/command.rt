@@ -21,6 +21,7 @@ Examples:
   resfork salvage bad.rsrc -o OUT      all resources that can be read of a damaged fork
   resfork show Game.rsrc 'STR#' 128    the texts of a resource
   resfork show Game.rsrc ICN# 128 -o icon.png
+  resfork page Game.rsrc -o game.html  a page that shows all of it
   resfork unpack Game.rsrc game        each resource as a file in the folder game
   resfork pack game New.rsrc           a fork of what is in the folder game
   resfork put Game.rsrc TEXT 128 -i readme.txt
@@ -139,6 +140,13 @@ const COMMANDS: &[CommandText] = &[
         about: "Writes each resource to a file of its own",
         long_about: Some(
             "Writes each resource to a file DIR/TYPE/ID NAME.bin, and all else of the fork to DIR/resources.json. Nothing is overwritten",
+        ),
+    },
+    CommandText {
+        name: "page",
+        about: "Writes a page of HTML that shows what is in files",
+        long_about: Some(
+            "Writes a page of HTML that shows what is in files: pictures, texts, and the first bytes of all else. It needs nothing else, and nothing is sent or fetched when it is opened",
         ),
     },
     CommandText {
@@ -287,7 +295,7 @@ const WORDS: &[Word] = &[
         "The file that the bytes are written to, in place of the standard output"),
     word!("salvage", "output", Form::Short('o', "output"), Values::One("OUT"), rival: Some("data");
         "The file that a fork with all resources that can be read is written to"),
-    word!("show", "output", Form::Short('o', "output"), Values::One("OUT");
+    word!("show" "page", "output", Form::Short('o', "output"), Values::One("OUT");
         "The file that is written, in place of the standard output"),
     word!("put" "rm" "set" "cp", "output", Form::Short('o', "output"), Values::One("OUT");
         "The file that is written, in place of the one that is read"),
@@ -307,9 +315,9 @@ const WORDS: &[Word] = &[
         "Says what would be done, and writes nothing"),
     word!("put" "rm" "set" "cp" "pack" "rez" "convert", "quiet", Form::Short('q', "quiet"), Values::Flag;
         "Doesn't say what was done"),
-    word!("ls" "get" "info" "check" "salvage" "show" "unpack" "put" "rm" "set" "cp" "diff" "pack" "derez" "rez" "convert", "limit", Form::Long("limit"), Values::One("SIZE");
+    word!("ls" "get" "info" "check" "salvage" "show" "unpack" "page" "put" "rm" "set" "cp" "diff" "pack" "derez" "rez" "convert", "limit", Form::Long("limit"), Values::One("SIZE");
         "Refuses a file of more bytes than this: a number, which K, M or G after it counts in 1024s; else 1G"),
-    word!("ls" "info" "check", "file", Form::Operand, Values::Many("FILE"), is_required: true;
+    word!("ls" "info" "check" "page", "file", Form::Operand, Values::Many("FILE"), is_required: true;
         "The files; - is the standard input"),
     word!("get" "salvage" "show" "unpack" "put" "rm" "set" "derez" "rez", "file", Form::Operand, Values::One("FILE"), is_required: true;
         "The file; - is the standard input"),

@@ -41,6 +41,7 @@ only_reads (asked.Report reporting) = true
 only_reads (asked.Salvage salvaging) = only_lists salvaging.what
 only_reads (asked.View viewing) = is_none viewing.output
 only_reads (asked.Unpack unpacking file) = false
+only_reads (asked.Page paging) = is_none paging.output
 only_reads (asked.Change change) = writes_nothing change
 only_reads (asked.Tell text) = true
 
@@ -58,6 +59,7 @@ ReadsAsked (asked.Report reporting) = ReadsThese reporting.files.items
 ReadsAsked (asked.Salvage salvaging) = ReadsOnly salvaging.file.now
 ReadsAsked (asked.View viewing) = ReadsOnly viewing.file.now
 ReadsAsked (asked.Unpack unpacking file) = ReadsOnly file.now
+ReadsAsked (asked.Page paging) = ReadsThese paging.files.items
 ReadsAsked (asked.Change change) = ReadsWork change
 ReadsAsked (asked.Tell text) = ReadsNothing
 

@@ -8,6 +8,7 @@ ghost use Rattle.resfork.specs.Running.{ChangesAsked, ReadsAsked, only_reads};
 ghost use Rattle.std.specs.Prelude.{◌≡◌, ◌≤◌, true};
 
 mod lines;
+mod page;
 mod report;
 mod rez;
 mod salvage;
@@ -24,6 +25,7 @@ use file_acts::message::{BAD_WORDS, CANT_GO_ON, DONE, finish, tell_bad_words};
 use fork_disk::{Unknown, World};
 use fork_words::asked::{Asked, Command, NotAsked, asked_by};
 use lines::with_words_in_lines;
+use page::write_page;
 use report::report_all;
 use salvage::salvage_file;
 use show::show_all;
@@ -76,6 +78,7 @@ fn run_asked<W: World>(host: &Host<'_>, asked: Asked<'_>, acts: &mut Acts) -> u8
         Asked::Unpack { unpacking, file } => {
             finish(host, file, use_table(host, file, &unpacking, acts))
         }
+        Asked::Page(asked) => write_page(host, &asked, acts),
         Asked::Change(work) => run_work(host, work, acts),
         Asked::Tell(text) => tell(host, text, acts),
     }

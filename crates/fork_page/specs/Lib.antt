@@ -1,0 +1,4 @@
+pub mod Shown
+pub mod Articles
+pub mod Pages
+pub mod Laws

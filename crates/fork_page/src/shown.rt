@@ -1,0 +1,58 @@
+//! How a resource is shown on a page.
+
+ghost use Rattle.std.specs.Prelude.{IfOk};
+ghost use Rattle.fork_page.specs.Shown.{IsPlain, IsShown};
+
+use fork_bytes::table::Row;
+use fork_list::unpacked_length;
+use fork_view::form::{is_text, png_of, push_hex, push_text};
+use std::alloc::{AllocError, Global};
+
+/// How many bytes of a resource are shown in hexadecimal digits, if nothing better is known of it.
+pub(crate) const FRONT: usize = 1024;
+
+/// What is shown of a resource.
+#[derive(Drop)]
+pub(crate) enum Shown {
+    /// A PNG file.
+    Picture(Vec<u8>),
+    /// A text.
+    Text(String),
+    /// So many bytes, which it would have once it is unpacked.
+    Compressed(usize),
+    /// Its first bytes in hexadecimal digits.
+    Digits(String),
+}
+
+/// The first bytes of a resource in hexadecimal digits.
+fn digits_of(alloc: Global, bytes: &[u8]) -> Result<Shown, AllocError>
+    ensures { IfOk result IsPlain }
+{
+    let mut text = String::new(alloc);
+    push_hex(&mut text, &bytes[..bytes.len().min(FRONT)])?;
+    Ok(Shown::Digits(text))
+}
+
+/// The text of a resource, or its first bytes where it has none.
+fn text_of(alloc: Global, row: &Row) -> Result<Shown, AllocError>
+    ensures { IfOk result IsPlain }
+{
+    let mut text = String::new(alloc);
+    if is_text(row) && push_text(alloc, &mut text, row)? {
+        return Ok(Shown::Text(text));
+    }
+    digits_of(alloc, row.datum.as_slice())
+}
+
+/// What is shown of a resource among these.
+pub(crate) fn shown_of(alloc: Global, rows: &[Row], row: &Row) -> Result<Shown, AllocError>
+    ensures { IfOk result (IsShown rows.now row.now) }
+{
+    if let Some(png) = png_of(alloc, rows, row)? {
+        return Ok(Shown::Picture(png));
+    }
+    if let Some(length) = unpacked_length(row.attributes, row.datum.as_slice()) {
+        return Ok(Shown::Compressed(length));
+    }
+    text_of(alloc, row)
+}

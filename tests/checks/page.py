@@ -1,0 +1,159 @@
+"""Checks the page that resfork writes of files, as a browser's parser finds it.
+
+Python's own parser of HTML reads the page. Each resource has one article, in the order of the fork, with its title, its size, and its picture, its
+text or its first bytes; a name or a text that looks like tags adds none. The page asks for nothing: its style and its script are those whose digests
+its policy names.
+"""
+import base64
+import hashlib
+import html.parser
+import os
+import re
+import tempfile
+
+from checks.fork_questions import Difference
+from checks.forks import compare, run
+from checks.shown import PICTURES, TEXTS, fork_of, must, write
+from model.fork import Row, quoted
+from model.messages import MISSING, refusal
+from model.shown import read_png
+
+# the elements of a file on the page
+ELEMENTS = set("section h2 p article h3 img pre details summary".split())
+# names and texts that would be tags, references or the end of something
+HOSTILE = [b"</article><script>alert(1)</script>", b"\" onload=\"alert(1)", b"' x='", b"&lt;b&gt;&amp;&#60;", b"<!--", b"]]>", b"</pre><img src=x>", b"&", b"<"]
+FRONT = 1024
+
+
+class Page(html.parser.HTMLParser):
+    """What a browser's parser finds: elements, and articles with their titles, pictures and texts."""
+
+    def __init__(self, text):
+        super().__init__(convert_charrefs=True)
+        self.articles, self.files, self.elements, self.open, self.raw = [], [], set(), [], {}
+        self.feed(text)
+        self.close()
+
+    def handle_starttag(self, tag, attrs):
+        if "main" in self.open:
+            self.elements.add(tag)
+        if tag == "section":
+            self.files.append({"h2": "", "p": ""})
+        if tag == "article":
+            self.articles.append({"file": len(self.files) - 1, "h3": "", "p": "", "pre": "", "summary": ""})
+        if tag == "img":
+            self.articles[-1]["img"] = dict(attrs)
+        elif tag not in ("meta", "input"):
+            self.open.append(tag)
+
+    def handle_endtag(self, tag):
+        must(self.open and self.open.pop() == tag, f"an element {tag} ends that wasn't begun last")
+
+    def handle_data(self, data):
+        if not self.open:
+            return
+        if "article" in self.open:
+            self.articles[-1][self.open[-1]] = self.articles[-1].get(self.open[-1], "") + data
+        elif "section" in self.open:
+            self.files[-1][self.open[-1]] += data
+        else:
+            self.raw[self.open[-1]] = self.raw.get(self.open[-1], "") + data
+
+
+def page_of(program, words):
+    """The page that a command line writes to the standard output."""
+    status, page, told = run(program, ["page", *words])
+    must((status, told) == (0, ""), f"page {words}: status {status}, {told}")
+    return page.decode(), Page(page.decode())
+
+
+def title(row):
+    name = "" if row.name is None else " " + quoted('"', row.name)
+    return f"{quoted(chr(39), row.kind)} {row.ident}{name}"
+
+
+def digest(text):
+    return base64.b64encode(hashlib.sha256(text.encode()).digest()).decode()
+
+
+def try_policy(text, page):
+    """Nothing but the page's own style, script and pictures counts."""
+    policy = re.search(r'http-equiv="Content-Security-Policy" content="([^"]*)"', text)
+    wanted = f"default-src 'none'; img-src data:; style-src 'sha256-{digest(page.raw['style'])}'; script-src 'sha256-{digest(page.raw['script'])}'"
+    must(policy and policy.group(1) == wanted, "the policy isn't that of the page's own style and script")
+    must(not re.search(r"https?:|url\(|@import|fetch\(|innerHTML", text), "the page leads elsewhere")
+
+
+def try_article(found, row, body):
+    """An article's title and size, and its picture (rows of dots) or its text."""
+    must(found["h3"] == title(row), f"the title {found['h3']!r} isn't {title(row)!r}")
+    must(found["p"].startswith(f"{len(row.data)} bytes"), f"{title(row)}: {found['p']!r}")
+    if isinstance(body, str):
+        must("img" not in found and found["pre"] == body, f"{title(row)} is shown as {found['pre']!r}, not {body!r}")
+    else:
+        kind, _, data = found["img"]["src"].partition(",")
+        must(kind == "data:image/png;base64" and found["img"]["alt"] == title(row), f"{title(row)}: no picture with its title")
+        must(read_png(base64.b64decode(data, validate=True)) == body, f"{title(row)}: the picture is another")
+
+
+def try_rows(program, path, rows, bodies):
+    write(path, fork_of(rows))
+    text, page = page_of(program, [path])
+    must(len(page.articles) == len(rows), f"{len(page.articles)} articles of {len(rows)} resources")
+    for found, row, body in zip(page.articles, rows, bodies):
+        try_article(found, row, body)
+    must(page.elements <= ELEMENTS, f"elements {page.elements - ELEMENTS} are on the page")
+    return text, page
+
+
+def try_digits(program, path):
+    """Of what isn't known better the first bytes are shown, and how many."""
+    for length in (0, 5, FRONT, FRONT + 1, 5000):
+        row = Row(b"CODE", 1, None, 0, bytes(length))
+        write(path, fork_of([row]))
+        _, page = page_of(program, [path])
+        shown = min(length, FRONT)
+        must(page.articles[0]["summary"] == f"the first {shown} bytes", f"{length} bytes: {page.articles[0]['summary']!r}")
+        must(page.articles[0]["pre"].count("\n") == -(-shown // 16), f"{length} bytes: other lines")
+
+
+def try_files(program, path, out):
+    """Several files, one that isn't there, and the file that is written."""
+    write(path, fork_of([Row(b"STR ", 1, b"a", 0, b"\1x")]))
+    other = path + " <b>&"
+    write(other, fork_of([]))
+    text, page = page_of(program, [path, other])
+    must([file["h2"] for file in page.files] == [path, other], f"files {page.files}")
+    must([it["file"] for it in page.articles] == [0], "an article is with another file")
+    compare("page -o", run(program, ["page", path, other, "-o", out]), 0, b"", "")
+    with open(out, encoding="utf-8") as file:
+        must(file.read() == text, "-o writes another page")
+    status, words = refusal("NO_SUCH_FILE", "unreadable", MISSING)
+    got = run(program, ["page", "NO_SUCH_FILE", path])
+    must(got[0] == status and words in got[2] and len(Page(got[1].decode()).articles) == 1, f"a file that isn't there: {got[0]}, {got[2]}")
+    must(run(program, ["page", path, "-o", os.path.join(out, "no folder")])[0] == 4, "a page that can't be written is passed over")
+
+
+def main(resfork):
+    with tempfile.TemporaryDirectory() as top:
+        path, out = os.path.join(top, "fork"), os.path.join(top, "out.html")
+        try:
+            pictures = [Row(kind, number, None, 0, data) for number, (kind, data, _) in enumerate(PICTURES)]
+            order = sorted(range(len(pictures)), key=lambda at: [row.kind for row in pictures].index(pictures[at].kind))
+            text, page = try_rows(resfork, path, [pictures[at] for at in order], [PICTURES[at][2] for at in order])
+            try_policy(text, page)
+            for kind, data, body in TEXTS:
+                try_rows(resfork, path, [Row(kind, -3, b"a", 0, data)], [body])
+            for word in HOSTILE:
+                rows = [Row(b"STR ", 1, word, 0, bytes([len(word)]) + word), Row(b"<'&>", 2, word, 0, word)]
+                write(path, fork_of(rows))
+                _, page = page_of(resfork, [path])
+                must([it["h3"] for it in page.articles] == [title(row) for row in rows], f"{word}: titles {page.articles}")
+                must(page.articles[0]["pre"] == word.decode() + "\n" and page.elements <= ELEMENTS, f"{word} became something else")
+            try_digits(resfork, path)
+            try_files(resfork, path, out)
+        except (Difference, AssertionError) as difference:
+            print(f"a page of files: {difference!r}")
+            return 1
+    print(f"a page of files: {len(PICTURES)} pictures, {len(TEXTS)} texts and {len(HOSTILE)} hostile names as they should be")
+    return 0
