@@ -1,0 +1,50 @@
+-- A file is refused as one that was named before it only where each may be named once.
+use Rattle.std.proofs.Common.{◌≡◌, ◌≢◌, List, [], arith, inl, inr, sym, subst}
+use Rattle.std.specs.declared.fs.File.{File}
+use Rattle.std.specs.declared.io.ErrorKind.{ErrorKind}
+use Rattle.clap.specs.Words.{Text}
+use Rattle.host_paths.specs.Asked.{Log}
+use Rattle.host_paths.specs.declared.host.Found.{Found}
+use Rattle.run_stores.specs.Opening.{because}
+use Rattle.run_stores.specs.Refusing.{CantClaim, CantMake, CantOpen, CantSettleName, CantSyncFolder, IsRefused, again, at_once, moved, to_make, to_read, unasked, unclaimed, unlocked, unopened, unsynced}
+use Rattle.run_stores.specs.declared.claimed.Naming.{Naming}
+use Rattle.run_stores.specs.declared.claimed.Naming.TheVariants.{Once}
+use Rattle.run_stores.specs.declared.opened.NotOpened.{NotOpened}
+use Rattle.run_stores.specs.declared.opened.NotOpened.TheVariants.{Twice}
+
+never_twice : (kind : ErrorKind) → because kind ≢ Twice
+never_twice kind is = grind arith
+
+folder_once : (to : Text) (old new : Log) → ¬ CantSyncFolder to Twice old new
+folder_once to old new (inl (kind, other, is, noted)) = never_twice kind (sym is)
+folder_once to old new (inr (folder, kind, is, noted)) = never_twice kind (sym is)
+
+name_once : (path : Text) (old new : Log) → ¬ CantSettleName path Twice old new
+name_once path old new (inl (kind, cant, is)) = never_twice kind (sym is)
+name_once path old new (inr (to, mid, follows, cant)) = folder_once to mid new cant
+
+made_once : (path : Text) (old new : Log) → ¬ CantMake path Twice old new
+made_once path old new (inl (kind, is, noted)) = never_twice kind (sym is)
+made_once path old new (inr (file, cant)) = name_once path _ new cant
+
+opened_once : (path : Text) (old new : Log) → ¬ CantOpen path Twice old new
+opened_once path old new (at_once kind one two is noted) = never_twice kind (sym is)
+opened_once path old new (to_read kind other one is noted) = never_twice kind (sym is)
+opened_once path old new (to_make cant) = made_once path _ new cant
+
+claimed_once : (path : Text) (file : File) (id : Found) (old new : Log) → ¬ CantClaim path file id Twice old new
+claimed_once path file id old new (unlocked (inl (is, noted))) = cc
+claimed_once path file id old new (unlocked (inr (kind, is, noted))) = never_twice kind (sym is)
+claimed_once path file id old new (moved locked lock (inl (there, elsewhere, is, noted))) = cc
+claimed_once path file id old new (moved locked lock (inr (kind, is, noted))) = never_twice kind (sym is)
+claimed_once path file id old new (unsynced locked led kind lock leads is noted) = never_twice kind (sym is)
+
+refused_once : (naming : Naming) (known : List Found) (path : Text) (calls : Log) → IsRefused naming known path Twice calls → naming ≡ Once
+refused_once naming known path calls (unopened cant) = absurd (opened_once path [] calls cant)
+refused_once naming known path calls (unasked file start kind opens is noted) = absurd (never_twice kind (sym is))
+refused_once naming known path calls (again file start id opens is once twice noted) = once
+refused_once naming known path calls (unclaimed file start id opens isnt regular cant) = absurd (claimed_once path file id _ calls cant)
+
+-- a file that is refused as a second name may be named once
+pub twice_once : (naming : Naming) (known : List Found) (path : Text) (why : NotOpened) (calls : Log) → IsRefused naming known path why calls → why ≡ Twice → naming ≡ Once
+twice_once naming known path why calls refused twice = refused_once naming known path calls (subst (λ (w : NotOpened). IsRefused naming known path w calls) twice refused)
