@@ -1,5 +1,9 @@
--- A file is refused as one that was named before it only where each may be named once.
-use Rattle.std.proofs.Common.{◌≡◌, ◌≢◌, List, [], arith, inl, inr, sym, subst}
+-- What refusals come of.
+use Rattle.std.proofs.Common.{◌≡◌, ◌≢◌, Result, Ok, Err, List, [], ◌∷◌, arith, inl, inr, sym, subst}
+use Rattle.std.specs.Prelude.{IfErr}
+use Rattle.std.specs.declared.io.ErrorKind.TheVariants.{NotFound}
+use Rattle.host_paths.specs.declared.host.Access.TheVariants.{Both}
+use Rattle.host_paths.specs.declared.host.HostCall.TheVariants.{Open}
 use Rattle.std.specs.declared.fs.File.{File}
 use Rattle.std.specs.declared.io.ErrorKind.{ErrorKind}
 use Rattle.clap.specs.Words.{Text}
@@ -48,3 +52,9 @@ refused_once naming known path calls (unclaimed file start id opens isnt regular
 -- a file that is refused as a second name may be named once
 pub twice_once : (naming : Naming) (known : List Found) (path : Text) (why : NotOpened) (calls : Log) → IsRefused naming known path why calls → why ≡ Twice → naming ≡ Once
 twice_once naming known path why calls refused twice = refused_once naming known path calls (subst (λ (w : NotOpened). IsRefused naming known path w calls) twice refused)
+
+-- a missing file that can't be made can't be opened
+pub cant_open_made : (path : Text) (r : Result File NotOpened) (kind : ErrorKind) (old mid new : Log) → mid ≡ Open Both path (Err kind) ∷ old → kind ≡ NotFound → IfErr r (λ why. CantMake path why mid new) → IfErr r (λ why. CantOpen path why old new)
+cant_open_made path (Ok file) kind old mid new noted is cant = tt
+cant_open_made path (Err why) kind old mid new noted is cant =
+    to_make (subst (λ (k : ErrorKind). CantMake path why (Open Both path (Err k) ∷ old) new) is (subst (λ (m : Log). CantMake path why m new) noted cant))

@@ -60,8 +60,10 @@ fn settle_name(rt: &HostRuntime, path: &str, calls: &mut HostCalls) -> Result<()
     ensures settles { OnOk result (SettlesName path.now calls.old.events calls.new.events) }
     ensures fails { IfErr result (λ why. CantSettleName path.now why calls.old.events calls.new.events) }
 {
-    let to = follow(rt, path, calls).map_err(unopened)?;
-    sync_folder(rt, &to, calls)
+    match follow(rt, path, calls) {
+        Ok(to) => sync_folder(rt, &to, calls),
+        Err(error) => Err(unopened(error)),
+    }
 }
 
 /// Makes the file of a path, with length 0.
@@ -69,9 +71,14 @@ fn made(rt: &HostRuntime, path: &str, calls: &mut HostCalls) -> Result<File, Not
     ensures opens { IfOk result (λ file. Makes path.now file calls.old.events calls.new.events) }
     ensures fails { IfErr result (λ why. CantMake path.now why calls.old.events calls.new.events) }
 {
-    let file = open_or_make(rt, path, calls).map_err(unopened)?;
-    settle_name(rt, path, calls)?;
-    Ok(file)
+    let file = match open_or_make(rt, path, calls) {
+        Ok(file) => file,
+        Err(error) => return Err(unopened(error)),
+    };
+    match settle_name(rt, path, calls) {
+        Ok(()) => Ok(file),
+        Err(why) => Err(why),
+    }
 }
 
 /// Whether an error of this kind says of a file that it may not be written.
