@@ -1,6 +1,7 @@
 -- What refusals come of.
 use Rattle.std.proofs.Common.{◌≡◌, ◌≢◌, Result, Ok, Err, List, [], ◌∷◌, arith, inl, inr, sym, subst}
 use Rattle.std.specs.Prelude.{IfErr}
+use Rattle.std.specs.Result.{IsErrAnd}
 use Rattle.std.specs.declared.io.ErrorKind.TheVariants.{NotFound}
 use Rattle.host_paths.specs.declared.host.Access.TheVariants.{Both}
 use Rattle.host_paths.specs.declared.host.HostCall.TheVariants.{Open}
@@ -58,3 +59,8 @@ pub cant_open_made : (path : Text) (r : Result File NotOpened) (kind : ErrorKind
 cant_open_made path (Ok file) kind old mid new noted is cant = tt
 cant_open_made path (Err why) kind old mid new noted is cant =
     to_make (subst (λ (k : ErrorKind). CantMake path why (Open Both path (Err k) ∷ old) new) is (subst (λ (m : Log). CantMake path why m new) noted cant))
+
+-- what is so of a reason is so of the one that is handed on
+pub handed_on : {T : Type 0} (r : Result T NotOpened) (why : NotOpened) (P : NotOpened → Type 0) → IsErrAnd r (λ x. x ≡ why) → P why → IfErr r P
+handed_on (Ok value) why P is so = absurd is
+handed_on (Err x) why P is so = subst P (sym is) so

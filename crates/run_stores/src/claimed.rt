@@ -182,7 +182,10 @@ fn claimed(
     ensures refused { calls.old.events ≡ [] → IfErr result (λ why. IsRefused naming known.now path.now why calls.new.events) }
 {
     let file = opened(rt, path, calls)?;
-    let found = found_of(&file, calls).map_err(unopened)?;
+    let found = match found_of(&file, calls) {
+        Ok(found) => found,
+        Err(error) => return Err(unopened(error)),
+    };
     let was_synced = match (is_known(known, &found), naming) {
         (false, _) => claim(rt, path, &file, &found, calls)?,
         (true, Naming::Repeated) => false,
