@@ -194,7 +194,8 @@ fn claimed(
     Ok((file, found, was_synced))
 }
 
-/// The same, with the calls of the system.
+/// Opens the file of a path, where these were opened before it, and claims it; with the calls of the system by which that
+/// was done, or refused.
 pub fn open_claimed(
     rt: &HostRuntime,
     path: &str,
