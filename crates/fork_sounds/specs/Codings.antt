@@ -1,6 +1,7 @@
 -- How samples are in bytes (Inside Macintosh: Sound, "Sound Storage Formats"). A sample is how far it is above the lowest
 -- level.
-use Rattle.std.specs.Prelude.{ℕ, ◌+◌, ◌*◌, ◌/◌, ◌%◌, List, slice_index}
+use Rattle.std.specs.Prelude.{ℕ, ◌+◌, ◌*◌, ◌/◌, ◌%◌, List, map, slice_index}
+use Rattle.std.specs.List.{range_with_len}
 use Rattle.fork_sounds.specs.declared.coding.Coding.{Coding}
 use Rattle.fork_sounds.specs.declared.coding.Coding.TheVariants.{Samples, Packets}
 use Rattle.fork_sounds.specs.declared.coding.Depth.{Depth}
@@ -66,3 +67,7 @@ sample_at (Samples layout) bytes start channels place = laid_at layout bytes sta
 sample_at Packets bytes start channels place =
     let frame = place / channels in
     packed_at bytes start (channels * (frame / 64) + place % channels) (frame % 64)
+
+-- all samples of a coding, whose channels have so many units together
+abbrev pub samples_in : Coding → List ℕ → ℕ → ℕ → ℕ → List ℕ
+samples_in coding bytes start channels all = map (sample_at coding bytes start channels) (range_with_len 0 (unit_samples coding * all))

@@ -1,5 +1,5 @@
 -- Sound headers (Inside Macintosh: Sound, "Sound Header Records").
-use Rattle.std.specs.Prelude.{ℕ, ◌+◌, ◌*◌, ◌==◌, ◌||◌, nat_lt, if◌then◌else◌, List, length, codes, bytes_eq, slice_index, Option, Some, None, Result, Ok, Err}
+use Rattle.std.specs.Prelude.{◌≤◌, ℕ, ◌+◌, ◌*◌, ◌==◌, ◌||◌, nat_lt, if◌then◌else◌, List, length, codes, bytes_eq, slice_index, Option, Some, None, Result, Ok, Err}
 use Rattle.fork_sounds.specs.declared.coding.Coding.{Coding}
 use Rattle.fork_sounds.specs.declared.coding.Coding.TheVariants.{Samples, Packets}
 use Rattle.fork_sounds.specs.declared.coding.Layout.{Layout}
@@ -45,6 +45,14 @@ compressed bytes at =
 -- how many bytes the samples have
 abbrev pub long_of : Source → ℕ
 long_of source = unit_long source.coding * (source.channels * source.units)
+
+-- a source has at least half a frame a second, from 1 to 32767 channels, and a unit, and the resource has all its bytes
+pub record IsSource (bytes : List ℕ) (source : Source) : Type 0 where
+  pub rate : 32768 ≤ source.rate
+  pub some : 1 ≤ source.channels
+  pub few : source.channels ≤ 32767
+  pub full : 1 ≤ source.units
+  pub inside : source.start + long_of source ≤ length bytes
 
 -- where the samples are, if there are some, and the resource has them all; the long word at a place has their number
 abbrev pub whole : List ℕ → ℕ → Source → Result Source Fault

@@ -5,3 +5,6 @@ pub mod Headers
 pub mod Packets
 pub mod Sounds
 pub mod Hears
+pub mod Waves
+pub mod Reader
+pub mod Laws

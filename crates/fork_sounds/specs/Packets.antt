@@ -1,5 +1,6 @@
 -- Packets of 'ima4': 34 bytes that hold 64 samples of a channel (Apple Technical Note 1081; IMA ADPCM).
-use Rattle.std.specs.Prelude.{ℕ, zero, suc, ◌+◌, ◌-◌, ◌*◌, ◌/◌, ◌%◌, ◌==◌, nat_lt, min, if◌then◌else◌, List, [], ◌∷◌, get_or, slice_index}
+use Rattle.std.specs.Prelude.{ℕ, zero, suc, ◌+◌, ◌-◌, ◌*◌, ◌/◌, ◌%◌, ◌==◌, nat_lt, min, if◌then◌else◌, List, [], ◌∷◌, get_or, map, slice_index, Option}
+use Rattle.std.specs.List.{find, range_with_len}
 use Rattle.fork_sounds.specs.declared.ima.State.{State}
 use Rattle.fork_sounds.specs.Bytes.{word_at}
 
@@ -50,3 +51,7 @@ state_after bytes at (suc count) = next (state_after bytes at count) (code_at by
 -- a sample of a packet
 abbrev pub packet_sample : List ℕ → ℕ → ℕ → ℕ
 packet_sample bytes at place = (state_after bytes at (place + 1)).level
+
+-- the head of the first of so many packets that has an index of more than 88
+abbrev pub wrong_head : List ℕ → ℕ → ℕ → Option ℕ
+wrong_head bytes start count = find (λ at. nat_lt 88 (word_at bytes at % 128)) (map (λ packet. start + 34 * packet) (range_with_len 0 count))

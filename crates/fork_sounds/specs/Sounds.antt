@@ -1,6 +1,6 @@
 -- The sound that a resource is.
-use Rattle.std.specs.Prelude.{◌≡◌, ◌≤◌, ◌<◌, ℕ, ◌+◌, ◌*◌, ◌%◌, ◌^◌, nat_lt, List, length, map, slice_index, Option, Some, None, Result, Ok, Err, []}
-use Rattle.std.specs.List.{find, range_with_len}
+use Rattle.std.specs.Prelude.{◌≡◌, ◌≤◌, ◌<◌, ℕ, ◌*◌, ◌%◌, List, length, slice_index, Option, Some, None, Result, Ok, Err}
+use Rattle.std.specs.List.{find}
 use Rattle.fork_sounds.specs.declared.coding.Coding.{Coding}
 use Rattle.fork_sounds.specs.declared.coding.Coding.TheVariants.{Samples, Packets}
 use Rattle.fork_sounds.specs.declared.coding.Depth.{Depth}
@@ -8,10 +8,11 @@ use Rattle.fork_sounds.specs.declared.command.Command.{Command}
 use Rattle.fork_sounds.specs.declared.fault.Fault.{Fault}
 use Rattle.fork_sounds.specs.declared.fault.Fault.TheVariants as fault
 use Rattle.fork_sounds.specs.declared.header.Source.{Source}
-use Rattle.fork_sounds.specs.Bytes.{and_then, word_at}
-use Rattle.fork_sounds.specs.Codings.{depth_of, levels, sample_at, unit_samples}
+use Rattle.fork_sounds.specs.Bytes.{and_then}
+use Rattle.fork_sounds.specs.Codings.{depth_of, levels, samples_in}
 use Rattle.fork_sounds.specs.Commands.{commands_of, plays}
 use Rattle.fork_sounds.specs.Headers.{source_at}
+use Rattle.fork_sounds.specs.Packets.{wrong_head}
 
 -- the frames of a second times 65,536, the samples of a frame, how many bits a sample has, and all samples, frame after
 -- frame
@@ -24,7 +25,6 @@ pub record Recording : Type 0 where
 -- a recording has at least half a frame a second, whole frames, not too many samples, and each is one of the levels
 pub record IsRecording (sound : Recording) : Type 0 where
   pub rate : 32768 ≤ sound.rate
-  pub fast : sound.rate < 2 ^ 32
   pub some : 1 ≤ sound.channels
   pub few : sound.channels ≤ 32767
   pub frames : length sound.samples % sound.channels ≡ 0
@@ -32,36 +32,27 @@ pub record IsRecording (sound : Recording) : Type 0 where
   pub small : length sound.samples ≤ 33554432
   pub within : (place : ℕ) → slice_index sound.samples place < levels sound.depth
 
--- how many samples a source has
-abbrev pub count_of : Source → ℕ
-count_of source = unit_samples source.coding * (source.channels * source.units)
-
--- a sample of a source by its place
-abbrev pub sample_of : Source → List ℕ → ℕ → ℕ
-sample_of source bytes place = sample_at source.coding bytes source.start source.channels place
+-- the samples of a source
+abbrev pub samples_of : Source → List ℕ → List ℕ
+samples_of source bytes = samples_in source.coding bytes source.start source.channels (source.channels * source.units)
 
 -- the recording of a source
 abbrev pub recorded : Source → List ℕ → Recording
 recorded source bytes =
-    record {
-      rate = source.rate;
-      channels = source.channels;
-      depth = depth_of source.coding;
-      samples = map (sample_of source bytes) (range_with_len 0 (count_of source));
-    }
+    record { rate = source.rate; channels = source.channels; depth = depth_of source.coding; samples = samples_of source bytes }
 
--- the heads of the packets of a source
-abbrev pub heads_of : Coding → Source → List ℕ
-heads_of Packets source = map (λ packet. source.start + 34 * packet) (range_with_len 0 (source.channels * source.units))
-heads_of (Samples layout) source = []
+-- the head of the first packet of a source that has an index of more than 88
+abbrev pub wrong_in : Coding → Source → List ℕ → Option ℕ
+wrong_in (Samples layout) source bytes = None
+wrong_in Packets source bytes = wrong_head bytes source.start (source.channels * source.units)
 
--- a source, if no head has an index of more than 88, otherwise the first that has
+-- a source, if no packet has a wrong head
 abbrev pub without : Option ℕ → Source → Result Source Fault
 without None source = Ok source
 without (Some at) source = Err (fault.Packet at)
 
 abbrev pub decodable : List ℕ → Source → Result Source Fault
-decodable bytes source = without (find (λ at. nat_lt 88 (word_at bytes at % 128)) (heads_of source.coding source)) source
+decodable bytes source = without (wrong_in source.coding source bytes) source
 
 -- the place of the header that a command has
 abbrev pub header_place : Option Command → Result ℕ Fault

@@ -23,14 +23,21 @@ hertz rate = (rate + 32768) / 65536
 abbrev pub frame_long : Recording → ℕ
 frame_long sound = sound.channels * width sound.depth
 
--- what the first chunk says: that samples aren't compressed, how many a frame has, the frames and the bytes of a second,
+-- that samples aren't compressed, and how many a frame has
+unfoldable pub shape : ℕ → List ℕ
+shape channels = little_bytes 2 1 ++ little_bytes 2 channels
+
+-- the frames and the bytes of a second
+unfoldable pub seconds : ℕ → ℕ → List ℕ
+seconds hertz frame = little_bytes 4 hertz ++ little_bytes 4 (hertz * frame)
+
 -- the bytes of a frame, and the bits of a sample
+unfoldable pub sizes : ℕ → Depth → List ℕ
+sizes frame depth = little_bytes 2 frame ++ little_bytes 2 (8 * width depth)
+
+-- what the first chunk says
 unfoldable pub format : Recording → List ℕ
-format sound =
-    little_bytes 2 1
-    ++ (little_bytes 2 sound.channels
-      ++ (little_bytes 4 (hertz sound.rate)
-        ++ (little_bytes 4 (hertz sound.rate * frame_long sound) ++ (little_bytes 2 (frame_long sound) ++ little_bytes 2 (8 * width sound.depth)))))
+format sound = shape sound.channels ++ (seconds (hertz sound.rate) (frame_long sound) ++ sizes (frame_long sound) sound.depth)
 
 -- a sample: a byte of which 128 is silence, or two bytes in two's complement, the lowest first
 abbrev pub sample_bytes : Depth → ℕ → List ℕ

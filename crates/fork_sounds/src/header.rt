@@ -1,7 +1,8 @@
 //! Sound headers: where the samples of a resource are.
 
-ghost use Rattle.std.specs.Prelude.{◌≡◌, ◌<◌, ◌^◌};
-ghost use Rattle.fork_sounds.specs.Headers.{channels_at, compressed, compressed_header, extended_header, given, header_of, long_source, named, native, of_bits, short_header, source_at, whole};
+ghost use Rattle.std.specs.Prelude.{◌≡◌, ◌≤◌, ◌<◌, ◌+◌, ◌^◌, IfOk};
+ghost use Rattle.fork_sounds.specs.Bytes.{long_at};
+ghost use Rattle.fork_sounds.specs.Headers.{IsSource, channels_at, compressed, compressed_header, extended_header, given, header_of, long_source, named, native, of_bits, short_header, source_at, whole};
 
 use crate::bytes::{byte_at, four_at, long_at, word_at};
 use crate::coding::{Coding, Layout};
@@ -81,8 +82,12 @@ fn compressed(bytes: &[u8], at: usize) -> Result<Coding, Fault>
 impl Source {
     /// Where the samples are, if there are some, and the resource has them all.
     fn whole(self, bytes: &[u8], place: usize) -> Result<Source, Fault>
-        requires { self.start < 2 ^ 40 }
-        ensures { result ≡ whole bytes.now place self }
+        requires low { self.start < 2 ^ 40 }
+        requires rate { 32768 ≤ self.rate }
+        requires some { 1 ≤ self.channels }
+        requires few { self.channels ≤ 32767 }
+        ensures is { result ≡ whole bytes.now place self }
+        ensures right { IfOk result (λ source. IsSource bytes.now source) }
     {
         if self.units == 0 {
             return Err(Fault::Empty(place as u64));
@@ -98,8 +103,10 @@ impl Source {
 
 /// A header of 22 bytes.
 fn short_header(bytes: &[u8], at: usize) -> Result<Source, Fault>
-    requires { at < 2 ^ 32 }
-    ensures { result ≡ short_header bytes.now at }
+    requires low { at < 2 ^ 32 }
+    requires rate { 32768 ≤ long_at bytes.now (at + 8) }
+    ensures is { result ≡ short_header bytes.now at }
+    ensures right { IfOk result (λ source. IsSource bytes.now source) }
 {
     let source = Source {
         channels: 1,
@@ -114,7 +121,8 @@ fn short_header(bytes: &[u8], at: usize) -> Result<Source, Fault>
 /// How many channels a header of 64 bytes has, extended or compressed.
 fn channels_at(bytes: &[u8], at: usize) -> Result<u16, Fault>
     requires { at < 2 ^ 32 }
-    ensures { result ≡ channels_at bytes.now at }
+    ensures is { result ≡ channels_at bytes.now at }
+    ensures few { IfOk result (λ channels. (1 ≤ channels) × (channels ≤ 32767)) }
 {
     if bytes.len() < at + 64 {
         return Err(Fault::Short(at as u64 + 64));
@@ -128,8 +136,12 @@ fn channels_at(bytes: &[u8], at: usize) -> Result<u16, Fault>
 
 /// Where the samples of a header of 64 bytes are.
 fn long_source(bytes: &[u8], at: usize, channels: u16, coding: Coding) -> Result<Source, Fault>
-    requires { at < 2 ^ 32 }
-    ensures { result ≡ long_source bytes.now at channels coding }
+    requires low { at < 2 ^ 32 }
+    requires rate { 32768 ≤ long_at bytes.now (at + 8) }
+    requires some { 1 ≤ channels }
+    requires few { channels ≤ 32767 }
+    ensures is { result ≡ long_source bytes.now at channels coding }
+    ensures right { IfOk result (λ source. IsSource bytes.now source) }
 {
     let source = Source {
         channels,
@@ -143,8 +155,10 @@ fn long_source(bytes: &[u8], at: usize, channels: u16, coding: Coding) -> Result
 
 /// An extended header.
 fn extended_header(bytes: &[u8], at: usize) -> Result<Source, Fault>
-    requires { at < 2 ^ 32 }
-    ensures { result ≡ extended_header bytes.now at }
+    requires low { at < 2 ^ 32 }
+    requires rate { 32768 ≤ long_at bytes.now (at + 8) }
+    ensures is { result ≡ extended_header bytes.now at }
+    ensures right { IfOk result (λ source. IsSource bytes.now source) }
 {
     let channels = channels_at(bytes, at)?;
     let coding = given(at + 48, native(word_at(bytes, at + 48)))?;
@@ -153,8 +167,10 @@ fn extended_header(bytes: &[u8], at: usize) -> Result<Source, Fault>
 
 /// A compressed header.
 fn compressed_header(bytes: &[u8], at: usize) -> Result<Source, Fault>
-    requires { at < 2 ^ 32 }
-    ensures { result ≡ compressed_header bytes.now at }
+    requires low { at < 2 ^ 32 }
+    requires rate { 32768 ≤ long_at bytes.now (at + 8) }
+    ensures is { result ≡ compressed_header bytes.now at }
+    ensures right { IfOk result (λ source. IsSource bytes.now source) }
 {
     let channels = channels_at(bytes, at)?;
     let coding = compressed(bytes, at)?;
@@ -163,8 +179,10 @@ fn compressed_header(bytes: &[u8], at: usize) -> Result<Source, Fault>
 
 /// A header by the number of its kind.
 fn header_of(bytes: &[u8], at: usize, kind: u8) -> Result<Source, Fault>
-    requires { at < 2 ^ 32 }
-    ensures { result ≡ header_of bytes.now at kind }
+    requires low { at < 2 ^ 32 }
+    requires rate { 32768 ≤ long_at bytes.now (at + 8) }
+    ensures is { result ≡ header_of bytes.now at kind }
+    ensures right { IfOk result (λ source. IsSource bytes.now source) }
 {
     match kind {
         0 => short_header(bytes, at),
@@ -176,7 +194,8 @@ fn header_of(bytes: &[u8], at: usize, kind: u8) -> Result<Source, Fault>
 
 /// Where the samples are of the header at a place.
 pub(crate) fn source_at(bytes: &[u8], at: u32) -> Result<Source, Fault>
-    ensures { result ≡ source_at bytes.now at }
+    ensures is { result ≡ source_at bytes.now at }
+    ensures right { IfOk result (λ source. IsSource bytes.now source) }
 {
     let at = at as usize;
     if bytes.len() < at + 22 {

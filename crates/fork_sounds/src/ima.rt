@@ -1,11 +1,9 @@
 //! Packets of 'ima4': 34 bytes that hold 64 samples of a channel.
 
-ghost use Rattle.std.specs.Prelude.{◌≡◌, ◌≤◌, ◌<◌, ◌+◌, ◌*◌, ◌^◌, IfOk, OnOk, ℕ, map};
-ghost use Rattle.std.specs.List.{range_with_len};
+ghost use Rattle.std.specs.Prelude.{◌≡◌, ◌<◌, ◌^◌};
 ghost use Rattle.fork_sounds.specs.Packets.{code_at, distance, head, moved, next, next_index, step_of};
 
 use crate::bytes::{byte_at, word_at};
-use std::alloc::{AllocError, Global};
 
 /// The sizes of steps.
 const STEPS: [u16; 89] = [
@@ -20,7 +18,7 @@ const STEPS: [u16; 89] = [
 #[derive(Clone, Copy)]
 pub struct State {
     /// How far the last sample is above the lowest level.
-    level: u16,
+    pub(crate) level: u16,
     /// Which step comes next.
     index: u8,
 }
@@ -28,10 +26,9 @@ pub struct State {
 /// The size of the step of an index.
 #[tactic(auto, unfolding(crate::specs::Packets::step_of))]
 fn step_of(index: u8) -> u16
-    requires { index ≤ 88 }
     ensures { result ≡ step_of index }
 {
-    STEPS[index as usize]
+    STEPS.get(index as usize).copied().unwrap_or(0)
 }
 
 /// How far a code of four bits moves.
@@ -58,24 +55,20 @@ fn moved(level: u16, step: u16, code: u8) -> u16
 
 /// The next index.
 fn next_index(index: u8, code: u8) -> u8
-    requires { index ≤ 88 }
-    ensures is { result ≡ next_index index code }
-    ensures low { result ≤ 88 }
+    ensures { result ≡ next_index index code }
 {
     if code % 8 < 4 {
         index.saturating_sub(1)
     } else {
-        (index + 2 * (code % 4 + 1)).min(88)
+        index.saturating_add(2 * (code % 4 + 1)).min(88)
     }
 }
 
 impl State {
     /// The state after a code.
     #[tactic(auto, unfolding(crate::specs::Packets::next))]
-    fn next(self, code: u8) -> State
-        requires { self.index ≤ 88 }
-        ensures is { result ≡ next self code }
-        ensures low { result.index ≤ 88 }
+    pub(crate) fn next(self, code: u8) -> State
+        ensures { result ≡ next self code }
     {
         State {
             level: moved(self.level, step_of(self.index), code),
@@ -85,7 +78,7 @@ impl State {
 }
 
 /// The state that the head of a packet says.
-fn head(bytes: &[u8], at: usize) -> State
+pub(crate) fn head(bytes: &[u8], at: usize) -> State
     requires { at < 2 ^ 40 }
     ensures { result ≡ head bytes.now at }
 {
@@ -97,7 +90,7 @@ fn head(bytes: &[u8], at: usize) -> State
 }
 
 /// A code of a packet.
-fn code_at(bytes: &[u8], at: usize, place: usize) -> u8
+pub(crate) fn code_at(bytes: &[u8], at: usize, place: usize) -> u8
     requires low { at < 2 ^ 40 }
     requires small { place < 64 }
     ensures { result ≡ code_at bytes.now at place }
