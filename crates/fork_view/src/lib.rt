@@ -3,6 +3,7 @@
 
 mod form;
 mod manifest;
+mod sound;
 pub mod unpack;
 mod view;
 
