@@ -180,11 +180,14 @@ fn sight_of_row(
         return Err(why);
     }
     if form == Some(ShowAs::Wav) {
-        return Ok(Sight {
-            bytes: wav_of(alloc, row)?,
-            is_binary: true,
-            untold: Vec::new(alloc),
-        });
+        return match wav_of(alloc, row) {
+            Ok(bytes) => Ok(Sight {
+                bytes,
+                is_binary: true,
+                untold: Vec::new(alloc),
+            }),
+            Err(why) => Err(why),
+        };
     }
     if (form.is_none() || form == Some(ShowAs::Png))
         && let Some(bytes) = png_of(alloc, rows, row)?
