@@ -17,6 +17,7 @@ from checks.forks import Choices, compare, run
 from checks.parts import whole
 from model.fork import NoFork, Row, listing, read_fork
 from model.messages import MISSING, message, refusal
+from model.sound import BUFFER, SOUND, as_bytes, commands, compressed, extended, ima4, read_wav, standard, words
 from model.shown import file_name, folder_name, pixels, read_png
 
 RANDOM = random.Random(7)
@@ -52,10 +53,70 @@ TEXTS = [
     (b"vers", b"\x07\x53\x80\0\0\0\0057.5.3\x0eSystem 7.5.3 \xa9", "version: 7.5.3f0\nregion: 0\nshort: 7.5.3\nlong: System 7.5.3 \u00a9\n"),
     (b"vers", b"\x12\x00\x60\x0b\1\2\x02ab\0", "version: 12.0.0b11\nregion: 258\nshort: ab\nlong: \n"),
     (b"snd ", b"\0\1A\xa9 ~\x7f\0\0\0\0\0\0\0\0\0z", "000000  00 01 41 A9 20 7E 7F 00 00 00 00 00 00 00 00 00  ..A\u00a9 ~..........\n000010  7A" + " " * 47 + "z\n"),
+    (
+        b"snd ",
+        commands((0x8051, 0, 0), (3, 0, 0), (99, 1, 70000)) + standard(0x56EE8BA3, bytes(22255)),
+        "rate: 22254.545\nchannels: 1\nbits: 8\nseconds: 1.000\ncommand: buffer 0, at 36\ncommand: quiet 0 0\ncommand: command 99 1 70000\n",
+    ),
+    (b"snd ", commands((44, 1, 2), form=2), "no samples: none of its commands plays samples\ncommand: timbre 1 2\n"),
     # they end before their texts do
     (b"STR ", b"\x05Hell", "000000  05 48 65 6C 6C" + " " * 35 + ".Hell\n"),
     (b"STR#", b"\0\2\1a", "000000  00 02 01 61" + " " * 38 + "...a\n"),
     (b"ICON", b"\0", "000000  00" + " " * 47 + ".\n"),
+]
+
+# the rates of a Macintosh and of a compact disc, and twice the same sounds: in all forms of headers and samples, with what their WAV files say
+MAC, DISC = 0x56EE8BA3, 44100 << 16
+NOISE = bytes(RANDOM.randrange(256) for _ in range(240))
+PACKETS = b"".join(struct.pack(">H", RANDOM.randrange(512) << 7 | RANDOM.randrange(89)) + RANDOM.randbytes(32) for _ in range(12))
+PLAYED = commands((BUFFER, 0, 0))
+SOUNDS = [
+    (PLAYED + standard(MAC, NOISE[:239]), (22255, 1, 8, list(NOISE[:239]))),
+    (commands((46, 0, 0x1000100), (SOUND, 0, 0), (BUFFER, 0, 999), form=2) + standard(11025 << 16, b"\0"), (11025, 1, 8, [0])),
+    (commands((SOUND & 0xFF, 0, 0), (BUFFER, 0, 0), synths=((5, 0xA0), (3, 0))) + standard(MAC, NOISE), (22255, 1, 8, list(NOISE))),
+    (PLAYED + extended(DISC, 1, 8, 240, NOISE), (44100, 1, 8, list(NOISE))),
+    (PLAYED + extended(DISC, 2, 16, 60, NOISE), (44100, 2, 16, words(NOISE, "big"))),
+    (PLAYED + extended(DISC, 5, 8, 3, NOISE), (44100, 5, 8, list(NOISE[:15]))),
+    (PLAYED + extended(0xFFFF8000, 3, 16, 40, NOISE), (65536, 3, 16, words(NOISE, "big"))),
+    (PLAYED + extended(0x8000, 1, 16, 1, b"\x80\0"), (1, 1, 16, [-32768])),
+    (PLAYED + compressed(DISC, 2, b"MAC3", 16, 60, NOISE, 0), (44100, 2, 16, words(NOISE, "big"))),
+    (PLAYED + compressed(DISC, 1, b"NONE", 8, 240, NOISE), (44100, 1, 8, list(NOISE))),
+    (PLAYED + compressed(DISC, 1, b"raw ", 8, 240, NOISE), (44100, 1, 8, list(NOISE))),
+    (PLAYED + compressed(DISC, 2, b"twos", 8, 120, NOISE), (44100, 2, 8, as_bytes(NOISE))),
+    (PLAYED + compressed(DISC, 2, b"twos", 16, 60, NOISE), (44100, 2, 16, words(NOISE, "big"))),
+    (PLAYED + compressed(DISC, 1, b"sowt", 8, 240, NOISE), (44100, 1, 8, as_bytes(NOISE))),
+    (PLAYED + compressed(DISC, 2, b"sowt", 16, 60, NOISE), (44100, 2, 16, words(NOISE, "little"))),
+    (PLAYED + compressed(MAC, 1, b"ima4", 16, 12, PACKETS), (22255, 1, 16, ima4(PACKETS, 1))),
+    (PLAYED + compressed(DISC, 2, b"ima4", 16, 6, PACKETS), (44100, 2, 16, ima4(PACKETS, 2))),
+    (PLAYED + compressed(DISC, 3, b"ima4", 0, 4, PACKETS), (44100, 3, 16, ima4(PACKETS, 3))),
+]
+
+# resources that are no such sound, with the message
+SILENT = [
+    (b"\0\2\0\0\0", message("few bytes", 6)),
+    (b"\0\3\0\0\0\0", message("snd format")),
+    (b"\0\2\0\0\0\2" + bytes(15), message("few bytes", 22)),
+    (commands((BUFFER & 0xFF, 0, 0)), message("silent")),
+    (PLAYED + bytes(21), message("few bytes", 42)),
+    (PLAYED + b"\0\0\0\1" + bytes(60), message("samples elsewhere", 20)),
+    (PLAYED + standard(0x7FFF, NOISE), message("snd rate", 28)),
+    (PLAYED + standard(MAC, NOISE)[:20] + b"\1" + bytes(60), message("snd header", 40)),
+    (PLAYED + standard(MAC, b""), message("no sample", 24)),
+    (PLAYED + standard(MAC, NOISE, 241), message("few bytes", 283)),
+    (PLAYED + standard(MAC, NOISE, 0xFFFFFFFF), message("few bytes", 42 + 0xFFFFFFFF)),
+    (PLAYED + extended(DISC, 2, 16, 61, NOISE)[:63], message("few bytes", 84)),
+    (PLAYED + extended(DISC, 0, 16, 61, NOISE), message("snd channels", 24)),
+    (PLAYED + extended(DISC, 32768, 16, 61, NOISE), message("snd channels", 24)),
+    (PLAYED + extended(DISC, 32767, 16, 0xFFFFFFFF, NOISE), message("few bytes", 84 + 2 * 32767 * 0xFFFFFFFF)),
+    (PLAYED + extended(DISC, 2, 12, 61, NOISE), message("snd bits", 68)),
+    (PLAYED + extended(DISC, 2, 16, 0, NOISE), message("no sample", 42)),
+    (PLAYED + compressed(DISC, 2, b"raw ", 16, 60, NOISE), message("snd bits", 82)),
+    (PLAYED + compressed(DISC, 1, b"MAC3", 16, 60, NOISE, 3), message("compressed samples", 76, message("mace three"))),
+    (PLAYED + compressed(DISC, 1, b"MAC6", 16, 60, NOISE, 4), message("compressed samples", 76, message("mace six"))),
+    (PLAYED + compressed(DISC, 1, b"ulaw", 16, 60, NOISE), message("unknown samples", 60, "ulaw")),
+    (PLAYED + compressed(DISC, 1, b"a\0\xffz", 16, 60, NOISE), message("unknown samples", 60, "a\\x00\\xFFz")),
+    (PLAYED + compressed(DISC, 1, b"ima4", 16, 13, PACKETS), message("few bytes", 84 + 13 * 34)),
+    (PLAYED + compressed(DISC, 1, b"ima4", 16, 12, PACKETS[:34] + b"\0\x59" + PACKETS[36:]), message("wrong packet", 118)),
 ]
 
 # command lines, with their status and what is said, or words of it
@@ -86,7 +147,10 @@ UNMADE = [
     (["-o", "OUT.png"], message("many pictures")),
     (["ICON", "1", "-o", "OUT.gif"], message("unmade")),
     (["ICON", "1", "-o", "OUT.JPEG"], message("unmade")),
-    (["snd ", "1", "-o", "OUT.wav"], message("unmade")),
+    (["snd ", "1", "-o", "OUT.wav"], message("unheard", message("few bytes", 6))),
+    (["ICON", "1", "-o", "OUT.Wav"], message("no sound", "'ICON'")),
+    (["snd ", "-o", "OUT.wav"], message("many sounds")),
+    (["snd ", "1", "-o", "OUT.aiff"], message("unmade")),
     (["ICON", "1", "--as", "gif", "-o", "OUT.gif"], message("bad form")),
     (["snd ", "1", "--as", "png", "-o", "OUT"], message("no picture", "'snd '")),
     (["STR ", "2", "--as", "text", "-o", "OUT.txt"], message("no text")),
@@ -137,6 +201,20 @@ def try_shown(program, path):
         compare(f"show {kind} {data}", run(program, ["show", path, kind.decode()]), 0, (title + text).encode(), "")
     write(path, fork_of([Row(b"TEXT", 1, None, 0, b"a\xa9")]))
     compare("show --as hex", run(program, ["show", path, "TEXT", "1", "--as", "hex"]), 0, ("000000  61 A9" + " " * 44 + "a\u00a9\n").encode(), "")
+
+
+def try_sounds(program, path, out):
+    """Compares the WAV files of sounds with their samples, and what is said of those that are none."""
+    for data, sound in SOUNDS:
+        write(path, fork_of([Row(b"snd ", 1, None, 0, data)]))
+        compare("show -o", run(program, ["show", path, "snd ", "1", "-o", out]), 0, b"", "")
+        with open(out, "rb") as file:
+            must(read_wav(file.read()) == sound, f"a sound of {len(data)} bytes, {sound[:3]}, isn't written as it should be")
+        os.remove(out)
+    for data, told in SILENT:
+        write(path, fork_of([Row(b"snd ", 1, None, 0, data)]))
+        compare("show -o", run(program, ["show", path, "snd ", "1", "-o", out]), 2, b"", message("unheard", told))
+        must(not os.path.exists(out), "a sound that can't be had is written")
 
 
 def try_forms(program, path, out):
@@ -311,6 +389,7 @@ def main(resfork, number=60):
         path = os.path.join(top, "fork")
         try:
             try_shown(resfork, path)
+            try_sounds(resfork, path, os.path.join(top, "sound.wav"))
             write(path, fork_of([Row(b"STR ", 2, None, 0, b"\x09"), Row(b"snd ", 1, None, 0, b""), Row(b"ICON", 1, None, 0, ICON)]))
             for words, status, told in LINES:
                 words = [path if it == "FILE" else it for it in words]
@@ -324,5 +403,5 @@ def main(resfork, number=60):
         except (Difference, AssertionError) as difference:
             print(f"resources that are shown and unpacked: {difference!r}")
             return 1
-    print(f"resources that are shown and unpacked: {len(PICTURES)} pictures, {len(TEXTS)} texts, {len(LINES)} command lines and {tried + 3} forks as they should be")
+    print(f"resources that are shown and unpacked: {len(PICTURES)} pictures, {len(SOUNDS) + len(SILENT)} sounds, {len(TEXTS)} texts, {len(LINES)} command lines and {tried + 3} forks as they should be")
     return 0

@@ -253,6 +253,9 @@ impl Problem {
             | Problem::View(NotShown::NoText)
             | Problem::View(NotShown::Compressed(_))
             | Problem::View(NotShown::ManyPictures)
+            | Problem::View(NotShown::NoSound(_))
+            | Problem::View(NotShown::Unheard(_))
+            | Problem::View(NotShown::ManySounds)
             | Problem::Untold(_) => BAD_WORDS,
             Problem::Pack(PackFault::HostFull) => CANT_GO_ON,
             Problem::Rez(RezFault::Refused(_))

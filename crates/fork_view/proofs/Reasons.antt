@@ -1,20 +1,23 @@
 -- Resources that can't be shown in a form.
-use Rattle.std.proofs.Common.{◌≡◌, ◌⊎◌, inl, inr, ℕ, List, Bool, true, false, if◌then◌else◌, Option, None, Some, Err, subst, sym}
+use Rattle.std.proofs.Common.{◌≡◌, ◌⊎◌, inl, inr, ℕ, List, Bool, true, false, if◌then◌else◌, Option, None, Some, Result, Ok, Err, subst, sym}
 use Rattle.std.specs.Option.{option_map_or}
 use Rattle.fork_bytes.specs.Rows.{Row}
 use Rattle.fork_list.specs.Compressed.{unpacked_length}
 use Rattle.fork_view.specs.declared.view.NotShown.{NotShown}
 use Rattle.fork_view.specs.declared.view.NotShown.TheVariants as unshown
 use Rattle.fork_view.specs.declared.view.ShowAs.{ShowAs}
-use Rattle.fork_view.specs.declared.view.ShowAs.TheVariants.{Text, Hex, Png}
-use Rattle.fork_view.specs.Forms.{ends_early}
-use Rattle.fork_view.specs.Sights.{ShowsRow, why_no_text, why_untold}
+use Rattle.fork_view.specs.declared.view.ShowAs.TheVariants.{Text, Hex, Png, Wav}
+use Rattle.fork_sounds.specs.declared.fault.Fault.{Fault}
+use Rattle.fork_sounds.specs.Sounds.{Recording, sound_of}
+use Rattle.fork_view.specs.Forms.{ends_early, is_sound}
+use Rattle.fork_view.specs.Sights.{ShowsRow, as_file, wav_file_of, why_no_text, why_untold}
 
 -- the reason of one that isn't compressed is that a text ends too early
 only_text : (form : Option ShowAs) (row : Row) (why : NotShown) → why_no_text form row ≡ Some why → why ≡ unshown.NoText
 only_text None row why is = absurd cc
 only_text (Some Hex) row why is = absurd cc
 only_text (Some Png) row why is = absurd cc
+only_text (Some Wav) row why is = absurd cc
 only_text (Some Text) row why is = by (ends_early row) is
   where
     by : (early : Bool) → (if early then Some unshown.NoText else None) ≡ Some why → why ≡ unshown.NoText
@@ -34,6 +37,7 @@ reason : (form : Option ShowAs) (row : Row) (why : NotShown) → why_untold form
 reason None row why is = by_length (unpacked_length row.attributes.0 row.datum) None row why is
 reason (Some Hex) row why is = absurd cc
 reason (Some Png) row why is = by_length (unpacked_length row.attributes.0 row.datum) (Some Png) row why is
+reason (Some Wav) row why is = by_length (unpacked_length row.attributes.0 row.datum) (Some Wav) row why is
 reason (Some Text) row why is = by_length (unpacked_length row.attributes.0 row.datum) (Some Text) row why is
 
 -- such a resource isn't shown
@@ -43,4 +47,25 @@ shows_none form rows row why is =
     elim (reason form row why is) [
       | inl early ↦ subst P (sym early) (λ is. is) is
       | inr packed ↦ subst P (sym packed.1) (λ is. is) is
+    ]
+
+-- a resource is of another type than a sound, or no sound that is decoded
+abbrev IsSilence : NotShown → Type 0
+IsSilence why = ((kind : List ℕ) × (why ≡ unshown.NoSound kind)) ⊎ ((fault : Fault) × (why ≡ unshown.Unheard fault))
+
+by_sound : (is : Bool) (sound : Result Recording Fault) (kind : List ℕ) (why : NotShown)
+    → (if is then as_file sound else Err (unshown.NoSound kind)) ≡ Err why → IsSilence why
+by_sound true (Ok sound) kind why is = absurd cc
+by_sound true (Err fault) kind why is = let same : why ≡ unshown.Unheard fault = cc in inr (fault, same)
+by_sound false sound kind why is = let same : why ≡ unshown.NoSound kind = cc in inl (kind, same)
+
+-- such a resource isn't shown as a WAV file
+pub shows_no_sound : (form : Option ShowAs) (rows : List Row) (row : Row) (why : NotShown) → form ≡ Some Wav → (why ≡ unshown.HostFull) ⊎ (wav_file_of row ≡ Err why)
+    → ShowsRow form rows row (Err why)
+shows_no_sound form rows row why asked (inl full) = let P : NotShown → Type 0 = λ why. ShowsRow form rows row (Err why) in subst P (sym full) tt
+shows_no_sound form rows row why asked (inr is) =
+    let P : NotShown → Type 0 = λ why. wav_file_of row ≡ Err why → ShowsRow form rows row (Err why) in
+    elim (by_sound (is_sound row.kind) (sound_of row.datum) row.kind why is) [
+      | inl other ↦ subst P (sym other.1) (λ is. (asked, is)) is
+      | inr silent ↦ subst P (sym silent.1) (λ is. (asked, is)) is
     ]

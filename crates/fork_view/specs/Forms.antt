@@ -16,7 +16,11 @@ use Rattle.fork_pictures.specs.Png.{png_of}
 abbrev pub is_text : List ℕ → Bool
 is_text kind = bytes_eq kind (codes "STR ") || (bytes_eq kind (codes "STR#") || (bytes_eq kind (codes "TEXT") || bytes_eq kind (codes "vers")))
 
--- a resource of such a type ends before its strings do
+-- resources of a type that are sounds
+abbrev pub is_sound : List ℕ → Bool
+is_sound kind = bytes_eq kind (codes "snd ")
+
+-- a resource of a type that is text ends before its strings do
 abbrev pub ends_early : Row → Bool
 ends_early row =
     if bytes_eq row.kind (codes "STR ") then is_none (string_of row.datum)

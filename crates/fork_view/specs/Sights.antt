@@ -10,22 +10,35 @@ use Rattle.fork_view.specs.declared.view.Chosen.{Chosen}
 use Rattle.fork_view.specs.declared.view.NotShown.{NotShown}
 use Rattle.fork_view.specs.declared.view.NotShown.TheVariants as unshown
 use Rattle.fork_view.specs.declared.view.ShowAs.{ShowAs}
-use Rattle.fork_view.specs.declared.view.ShowAs.TheVariants.{Text, Hex, Png}
+use Rattle.fork_view.specs.declared.view.ShowAs.TheVariants.{Text, Hex, Png, Wav}
 use Rattle.fork_view.specs.declared.view.Sight.{Sight}
 use Rattle.fork_view.specs.declared.view.Untold.{Untold}
-use Rattle.fork_view.specs.Forms.{ends_early, picture_file}
+use Rattle.fork_sounds.specs.declared.fault.Fault.{Fault}
+use Rattle.fork_sounds.specs.Sounds.{Recording, sound_of}
+use Rattle.fork_sounds.specs.Waves.{wav_of}
+use Rattle.fork_view.specs.Forms.{ends_early, is_sound, picture_file}
 
--- a resource that is a picture is shown as one, unless another form is asked for
+-- a sound as a WAV file, or why it is none
+abbrev pub as_file : Result Recording Fault → Result (List ℕ) NotShown
+as_file (Ok sound) = Ok (wav_of sound)
+as_file (Err fault) = Err (unshown.Unheard fault)
+
+-- the sound that a resource is, as a WAV file, or why it is none
+abbrev pub wav_file_of : Row → Result (List ℕ) NotShown
+wav_file_of row = if is_sound row.kind then as_file (sound_of row.datum) else Err (unshown.NoSound row.kind)
+
+-- a resource that is a picture is shown as one, unless another form is asked for; a sound where a WAV file is
 abbrev pub IsShownAs : Option ShowAs → List Row → Row → Bool → List ℕ → Type 0
-IsShownAs form rows row true bytes = ((form ≡ None) ⊎ (form ≡ Some Png)) × (picture_file rows row ≡ Some bytes)
-IsShownAs form rows row false bytes = (form ≢ Some Png) × (form ≡ None → picture_file rows row ≡ None)
+IsShownAs form rows row true bytes =
+    (((form ≡ None) ⊎ (form ≡ Some Png)) × (picture_file rows row ≡ Some bytes)) ⊎ ((form ≡ Some Wav) × (wav_file_of row ≡ Ok bytes))
+IsShownAs form rows row false bytes = (form ≢ Some Png) × (form ≢ Some Wav) × (form ≡ None → picture_file rows row ≡ None)
 
 -- why a resource can't be shown as text: it ends too early
 abbrev pub why_no_text : Option ShowAs → Row → Option NotShown
 why_no_text (Some Text) row = if ends_early row then Some unshown.NoText else None
 why_no_text form row = None
 
--- why a resource can't be shown in a form, or as its type says, where it is no picture: it is compressed, or its text
+-- why a resource can't be shown in a form, or as its type says, where it is neither a picture nor a sound: it is compressed, or its text
 -- ends too early. In digits each can be shown
 abbrev pub why_untold : Option ShowAs → Row → Option NotShown
 why_untold (Some Hex) row = None
@@ -49,10 +62,13 @@ is_of_kind (Some kind) own = bytes_eq kind own
 abbrev pub untold_in : Option (List ℕ) → Option ShowAs → Row → List Untold
 untold_in kind form row = if is_of_kind kind row.kind then untold_of form row else []
 
--- what is shown of one resource, or why it isn't: it is compressed, or no picture, or its text ends too early
+-- what is shown of one resource, or why it isn't: it is compressed, or no picture, or no sound, or its text ends
+-- too early
 abbrev pub ShowsRow : Option ShowAs → List Row → Row → Result Sight NotShown → Type 0
-ShowsRow form rows row (Ok sight) = IsShownAs form rows row sight.is_picture sight.bytes.items × (why_untold form row ≡ None) × (sight.untold.items ≡ [])
+ShowsRow form rows row (Ok sight) = IsShownAs form rows row sight.is_binary sight.bytes.items × (why_untold form row ≡ None) × (sight.untold.items ≡ [])
 ShowsRow form rows row (Err (unshown.NoPicture kind)) = (form ≡ Some Png) × (picture_file rows row ≡ None) × (kind ≡ row.kind)
+ShowsRow form rows row (Err (unshown.NoSound kind)) = (form ≡ Some Wav) × (wav_file_of row ≡ Err (unshown.NoSound kind))
+ShowsRow form rows row (Err (unshown.Unheard fault)) = (form ≡ Some Wav) × (wav_file_of row ≡ Err (unshown.Unheard fault))
 ShowsRow form rows row (Err unshown.NoText) = why_untold form row ≡ Some unshown.NoText
 ShowsRow form rows row (Err (unshown.Compressed length)) = why_untold form row ≡ Some (unshown.Compressed length)
 ShowsRow form rows row (Err unshown.HostFull) = ⊤
@@ -60,8 +76,9 @@ ShowsRow form rows row (Err other) = ⊥
 
 -- what is shown of several, which is text, with those that can't be shown so, each of them; or why nothing is
 abbrev pub ShowsRows : Option (List ℕ) → Option ShowAs → List Row → Result Sight NotShown → Type 0
-ShowsRows kind form rows (Ok sight) = (form ≢ Some Png) × (sight.is_picture ≡ false) × (sight.untold.items ≡ flat_map (untold_in kind form) rows)
+ShowsRows kind form rows (Ok sight) = (form ≢ Some Png) × (form ≢ Some Wav) × (sight.is_binary ≡ false) × (sight.untold.items ≡ flat_map (untold_in kind form) rows)
 ShowsRows kind form rows (Err unshown.ManyPictures) = form ≡ Some Png
+ShowsRows kind form rows (Err unshown.ManySounds) = form ≡ Some Wav
 ShowsRows kind form rows (Err unshown.HostFull) = ⊤
 ShowsRows kind form rows (Err other) = ⊥
 

@@ -3,6 +3,7 @@
 
 pub mod form;
 mod manifest;
+mod sound;
 pub mod unpack;
 mod view;
 

@@ -5,10 +5,12 @@ ghost use Rattle.std.specs.List.{flat_map};
 ghost use Rattle.fork_view.specs.Sights.{ShowsChosen, ShowsRow, ShowsRows, is_of_kind, untold_in, untold_of, why_left_out, why_untold};
 
 use crate::form::{ends_early, is_text, png_of, push_hex, push_text};
+use crate::sound::{is_sound, push_sound, wav_of};
 use fork_bytes::table::Row;
 use fork_list::find::Wanted;
 use fork_list::letters::Letters;
 use fork_list::{KindText, NamePart, Quoted, find_row, unpacked_length};
+use fork_sounds::fault::Fault;
 use mac_base::resource::ResType;
 use std::alloc::{AllocError, Global};
 use thiserror::Error;
@@ -19,6 +21,7 @@ pub enum ShowAs {
     Text,
     Hex,
     Png,
+    Wav,
 }
 
 /// Which resources are shown.
@@ -52,9 +55,18 @@ pub enum NotShown {
     /// It is compressed, and has so many bytes once it is unpacked.
     #[error("compressed, {0} bytes unpacked; its bytes can be had with get")]
     Compressed(usize),
+    /// One of this type can't be a WAV file.
+    #[error("this {kind} is no sound: a 'snd ' is written as a WAV file; --as hex writes hexadecimal digits, and --as text its bytes as text", kind = Quoted::single(Letters::Roman, &.0.bytes()))]
+    NoSound(ResType),
+    /// The samples of a sound can't be had.
+    #[error("this sound isn't written as a WAV file: {0}; --as hex shows its bytes")]
+    Unheard(Fault),
     /// Several resources can't be one PNG file.
     #[error("a PNG file has one picture: name a resource by its type and its id; --as hex writes hexadecimal digits, and --as text texts")]
     ManyPictures,
+    /// Several resources can't be one WAV file.
+    #[error("a WAV file has one sound: name a resource by its type and its id; --as hex writes hexadecimal digits, and --as text texts")]
+    ManySounds,
     /// The host has no memory.
     #[error("the host has no memory")]
     HostFull,
@@ -79,11 +91,11 @@ pub struct Untold {
     pub why: NotShown,
 }
 
-/// What is shown, and whether it is a picture, which isn't for a terminal.
+/// What is shown, and whether it is a picture or a sound, which aren't for a terminal.
 #[derive(Drop)]
 pub struct Sight {
     pub bytes: Vec<u8>,
-    pub is_picture: bool,
+    pub is_binary: bool,
     /// The resources that should be shown, too, and can't be in the form that is asked for.
     pub untold: Vec<Untold>,
 }
@@ -108,7 +120,8 @@ fn why_untold(
     Ok(None)
 }
 
-/// Adds a resource by its type as text, or in hexadecimal digits; of a compressed one a line says that it is.
+/// Adds a resource by its type as text, or a sound in words; of a compressed one a line says that it is. False where
+/// its digits are to be shown.
 fn push_by_type(alloc: Global, text: &mut String, row: &Row) -> Result<bool, AllocError> {
     if let Some(length) = unpacked_length(row.attributes, row.datum.as_slice()) {
         let why = NotShown::Compressed(length);
@@ -117,6 +130,8 @@ fn push_by_type(alloc: Global, text: &mut String, row: &Row) -> Result<bool, All
     }
     if is_text(row) {
         push_text(alloc, text, row)
+    } else if is_sound(row) {
+        push_sound(alloc, text, row)
     } else {
         Ok(false)
     }
@@ -164,12 +179,22 @@ fn sight_of_row(
     if let Some(why) = why_untold(alloc, row, form)? {
         return Err(why);
     }
+    if form == Some(ShowAs::Wav) {
+        return match wav_of(alloc, row) {
+            Ok(bytes) => Ok(Sight {
+                bytes,
+                is_binary: true,
+                untold: Vec::new(alloc),
+            }),
+            Err(why) => Err(why),
+        };
+    }
     if (form.is_none() || form == Some(ShowAs::Png))
         && let Some(bytes) = png_of(alloc, rows, row)?
     {
         return Ok(Sight {
             bytes,
-            is_picture: true,
+            is_binary: true,
             untold: Vec::new(alloc),
         });
     }
@@ -180,7 +205,7 @@ fn sight_of_row(
     push_row(alloc, &mut text, row, form)?;
     Ok(Sight {
         bytes: text.into_bytes(),
-        is_picture: false,
+        is_binary: false,
         untold: Vec::new(alloc),
     })
 }
@@ -262,6 +287,9 @@ fn sight_of_rows(
     if form == Some(ShowAs::Png) {
         return Err(NotShown::ManyPictures);
     }
+    if form == Some(ShowAs::Wav) {
+        return Err(NotShown::ManySounds);
+    }
     let mut text = String::new(alloc);
     let mut others = Vec::new(alloc);
     for row in rows {
@@ -269,7 +297,7 @@ fn sight_of_rows(
     }
     Ok(Sight {
         bytes: text.into_bytes(),
-        is_picture: false,
+        is_binary: false,
         untold: others,
     })
 }

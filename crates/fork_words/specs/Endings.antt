@@ -3,7 +3,7 @@ use Rattle.std.specs.Prelude.{◌≡◌, ◌⊎◌, ℕ, ◌==◌, ◌||◌, if�
 use Rattle.std.specs.Char.{to_ascii_lowercase}
 use Rattle.std.specs.List.{ends_with}
 use Rattle.fork_view.specs.declared.view.ShowAs.{ShowAs}
-use Rattle.fork_view.specs.declared.view.ShowAs.TheVariants.{Text, Hex, Png}
+use Rattle.fork_view.specs.declared.view.ShowAs.TheVariants.{Text, Hex, Png, Wav}
 use Rattle.fork_words.specs.declared.asked.NotAsked.{NotAsked}
 use Rattle.fork_words.specs.declared.asked.NotAsked.TheVariants as not_asked
 use Rattle.fork_words.specs.declared.fault.Fault.TheVariants as fault
@@ -14,6 +14,7 @@ form_named word =
     if bytes_eq word (codes "text") then Some Text
     else if bytes_eq word (codes "hex") then Some Hex
     else if bytes_eq word (codes "png") then Some Png
+    else if bytes_eq word (codes "wav") then Some Wav
     else None
 
 -- a name ends so
@@ -27,19 +28,22 @@ is_other_picture name =
     || (has_ending name (codes ".tif") || (has_ending name (codes ".tiff") || (has_ending name (codes ".ico") || (has_ending name (codes ".icns")
     || (has_ending name (codes ".webp") || (has_ending name (codes ".svg") || (has_ending name (codes ".pict") || has_ending name (codes ".pdf")))))))))))
 
--- it ends as sounds do
-abbrev pub is_sound : List ℕ → Bool
-is_sound name =
-    has_ending name (codes ".wav") || (has_ending name (codes ".aif") || (has_ending name (codes ".aiff")
-    || (has_ending name (codes ".aifc") || (has_ending name (codes ".mp3") || has_ending name (codes ".au")))))
+-- it ends as sounds do that aren't made
+abbrev pub is_other_sound : List ℕ → Bool
+is_other_sound name =
+    has_ending name (codes ".aif") || (has_ending name (codes ".aiff")
+    || (has_ending name (codes ".aifc") || (has_ending name (codes ".mp3") || has_ending name (codes ".au"))))
 
 -- a name ends, in capital or small letters, as what isn't made
 abbrev pub is_unmade : List ℕ → Bool
-is_unmade name = is_other_picture (map to_ascii_lowercase name) || is_sound (map to_ascii_lowercase name)
+is_unmade name = is_other_picture (map to_ascii_lowercase name) || is_other_sound (map to_ascii_lowercase name)
 
 -- the form that the ending of a name asks for
 abbrev pub form_by_ending : List ℕ → Option ShowAs
-form_by_ending name = if has_ending (map to_ascii_lowercase name) (codes ".png") then Some Png else None
+form_by_ending name =
+    if has_ending (map to_ascii_lowercase name) (codes ".png") then Some Png
+    else if has_ending (map to_ascii_lowercase name) (codes ".wav") then Some Wav
+    else None
 
 -- the form of what is shown: the one that a word names, or else the one that a name's ending asks for
 abbrev pub IsViewForm : Option (List ℕ) → Option (List ℕ) → Option ShowAs → Type 0

@@ -132,7 +132,7 @@ const COMMANDS: &[CommandText] = &[
         name: "show",
         about: "Shows what is in resources",
         long_about: Some(
-            "Shows what is in resources: 'STR ', 'STR#', 'TEXT' and 'vers' as text, and others in hexadecimal digits; one 'ICON', 'ICN#', 'ics#', 'CURS' or 'SICN' as a PNG file",
+            "Shows what is in resources: 'STR ', 'STR#', 'TEXT' and 'vers' as text, and others in hexadecimal digits; one 'ICON', 'ICN#', 'ics#', 'CURS' or 'SICN' as a PNG file, and one 'snd ' as a WAV file where that is asked for",
         ),
     },
     CommandText {
@@ -254,7 +254,7 @@ const WORDS: &[Word] = &[
     word!("ls", "data", Form::Long("data"), Values::One("FORM");
         "With --json: the bytes of each resource too, as base64"),
     word!("show", "as", Form::Long("as"), Values::One("FORM");
-        "text, hex or png, in place of what suits the type"),
+        "text, hex, png or wav, in place of what suits the type"),
     word!("get", "nth", Form::Long("nth"), Values::One("N");
         "Of several such resources the N-th, counted from 1"),
     word!("put", "input", Form::Short('i', "input"), Values::One("IN");

@@ -1,7 +1,7 @@
 //! The form of what `show` writes: the one that `--as` names, or that the ending of a file's name asks for.
 
 ghost use Rattle.std.specs.Prelude.{◌≡◌, ◌||◌, false, IfErr, IfOk, option_map};
-ghost use Rattle.fork_words.specs.Endings.{IsEndingFault, IsFormFault, IsViewForm, form_by_ending, form_named, has_ending, is_other_picture, is_sound, is_unmade};
+ghost use Rattle.fork_words.specs.Endings.{IsEndingFault, IsFormFault, IsViewForm, form_by_ending, form_named, has_ending, is_other_picture, is_other_sound, is_unmade};
 
 use crate::asked::NotAsked;
 use crate::fault::Fault;
@@ -16,6 +16,7 @@ fn form_named(word: &str) -> Option<ShowAs>
         b"text" => Some(ShowAs::Text),
         b"hex" => Some(ShowAs::Hex),
         b"png" => Some(ShowAs::Png),
+        b"wav" => Some(ShowAs::Wav),
         _ => None,
     }
 }
@@ -45,12 +46,11 @@ fn is_other_picture(name: &[u8]) -> bool
         || has_ending(name, b".pdf")
 }
 
-/// Whether a name ends as sounds do.
-fn is_sound(name: &[u8]) -> bool
-    ensures { result ≡ is_sound name.now }
+/// Whether a name ends as sounds do that aren't made.
+fn is_other_sound(name: &[u8]) -> bool
+    ensures { result ≡ is_other_sound name.now }
 {
-    has_ending(name, b".wav")
-        || has_ending(name, b".aif")
+    has_ending(name, b".aif")
         || has_ending(name, b".aiff")
         || has_ending(name, b".aifc")
         || has_ending(name, b".mp3")
@@ -59,9 +59,9 @@ fn is_sound(name: &[u8]) -> bool
 
 /// Whether a name in small letters ends as that of a picture or a sound which isn't made.
 fn is_refused(name: &[u8]) -> bool
-    ensures { result ≡ is_other_picture name.now || is_sound name.now }
+    ensures { result ≡ is_other_picture name.now || is_other_sound name.now }
 {
-    is_other_picture(name) || is_sound(name)
+    is_other_picture(name) || is_other_sound(name)
 }
 
 /// The form that the ending of a name asks for, in capital or small letters, if it asks for one. That of a picture or a
@@ -78,6 +78,8 @@ fn form_by_ending(alloc: Global, name: &str) -> Result<Option<ShowAs>, NotAsked>
     }
     if has_ending(name, b".png") {
         Ok(Some(ShowAs::Png))
+    } else if has_ending(name, b".wav") {
+        Ok(Some(ShowAs::Wav))
     } else {
         Ok(None)
     }

@@ -54,9 +54,9 @@ pub enum Fault {
     #[error("--to takes raw, appledouble, applesingle, macbinary or binhex")]
     NoContainer,
     /// What `--as` has is no form.
-    #[error("--as takes text, hex or png")]
+    #[error("--as takes text, hex, png or wav")]
     NoForm,
     /// The output's name ends as that of a picture or a sound which isn't made.
-    #[error("no file of this ending is made: show writes texts (--as text), hexadecimal digits (--as hex), and as OUT.png 'ICON', 'ICN#', 'ics#', 'CURS' and 'SICN'; get writes the bytes of a resource as they are")]
+    #[error("no file of this ending is made: show writes texts (--as text), hexadecimal digits (--as hex), as OUT.png 'ICON', 'ICN#', 'ics#', 'CURS' and 'SICN', and as OUT.wav 'snd '; get writes the bytes of a resource as they are")]
     NoEnding,
 }

@@ -70,7 +70,7 @@ fn unseen(host: &Host<'_>, chosen: &Chosen, fault: NotShown) -> Problem {
     }
 }
 
-/// Writes what is shown, to the file of this name or to the standard output. A picture isn't written to a terminal.
+/// Writes what is shown, to the file of this name or to the standard output. A picture or a sound isn't written to a terminal.
 fn write_sight(
     host: &Host<'_>,
     sight: &Sight,
@@ -81,7 +81,7 @@ fn write_sight(
 {
     match output {
         Some(output) => save_to(host, output, &sight.bytes, acts),
-        None if sight.is_picture && host.rt.stdout().is_terminal() => Err(Problem::Terminal),
+        None if sight.is_binary && host.rt.stdout().is_terminal() => Err(Problem::Terminal),
         None => print(host, &sight.bytes, acts),
     }
 }

@@ -1,0 +1,10 @@
+pub mod Bytes
+pub mod Commands
+pub mod Codings
+pub mod Headers
+pub mod Packets
+pub mod Sounds
+pub mod Hears
+pub mod Waves
+pub mod Reader
+pub mod Laws
