@@ -1,0 +1,9 @@
+pub mod Same
+pub mod Unchanged
+pub mod Numbers
+pub mod Letters
+pub mod Again
+pub mod Rows
+pub mod Put
+pub mod Loops
+pub mod Romans
