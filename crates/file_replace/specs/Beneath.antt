@@ -1,6 +1,8 @@
 -- By which calls of the system a path of the host does what it is asked for. The newest call comes first.
 use Rattle.std.specs.Prelude.{◌≡◌, ◌⊎◌, Bool, true, false, List, ℕ, [], ◌∷◌, Option, Some, None, Result, Ok, Err, IsErr, is_ok}
 use Rattle.std.specs.declared.fs.File.{File}
+use Rattle.std.specs.IoError.{error_kind}
+use Rattle.std.specs.declared.io.Error.{Error}
 use Rattle.std.specs.declared.io.ErrorKind.{ErrorKind}
 use Rattle.std.specs.declared.io.ErrorKind.TheVariants.{PermissionDenied}
 use Rattle.host_paths.specs.Asked.{LeadsTo, Log, done_answer, folder_name}
@@ -24,7 +26,7 @@ use Rattle.file_replace.specs.declared.rights.Owner.{Owner}
 abbrev pub is_nothing : Answer → Bool
 is_nothing (Is found) = false
 is_nothing Nothing = true
-is_nothing Failed = false
+is_nothing (Failed kind) = false
 
 -- a path has what it has to have, or not
 abbrev pub Has : There → List ℕ → Bool → Log → Log → Type 0
@@ -49,15 +51,15 @@ IsGivenTo file owner old new = (new ≡ Give file (Some owner.user) owner.group 
     ⊎ ((is_done : Bool) × (new ≡ Give file None owner.group is_done ∷ Give file (Some owner.user) owner.group false ∷ old))
 
 -- to whom it belongs then, which was asked for
-abbrev pub BelongsTo : {E : Type 0} → File → Result Owner E → Log → Log → Type 0
+abbrev pub BelongsTo : File → Result Owner Error → Log → Log → Type 0
 BelongsTo file (Ok owner) old new = (found : Found) × (owner ≡ record { user = found.user; group = found.group }) × (new ≡ Of file (Is found) ∷ old)
-BelongsTo file (Err error) old new = new ≡ Of file Failed ∷ old
+BelongsTo file (Err error) old new = new ≡ Of file (Failed (error_kind error)) ∷ old
 
-abbrev pub Gives : {E : Type 0} → File → Owner → Result Owner E → Log → Log → Type 0
+abbrev pub Gives : File → Owner → Result Owner Error → Log → Log → Type 0
 Gives file owner result old new = (mid : Log) × IsGivenTo file owner old mid × BelongsTo file result mid new
 
 -- the same of the file beside; without one it fails
-abbrev pub GivesIt : {E : Type 0} → Option Beside → Owner → Result Owner E → Log → Log → Type 0
+abbrev pub GivesIt : Option Beside → Owner → Result Owner Error → Log → Log → Type 0
 GivesIt None owner result old new = IsErr result
 GivesIt (Some beside) owner result old new = Gives (file_of beside) owner result old new
 
@@ -67,7 +69,7 @@ SetsMode None mode result old new = IsErr result
 SetsMode (Some beside) mode result old new = new ≡ SetMode (file_of beside) mode (is_ok result) ∷ old
 
 -- the file beside was to be synced; without one it fails
-abbrev pub SyncsIt : {T E : Type 0} → Option Beside → Result T E → Log → Log → Type 0
+abbrev pub SyncsIt : {T : Type 0} → Option Beside → Result T Error → Log → Log → Type 0
 SyncsIt None result old new = IsErr result
 SyncsIt (Some beside) result old new = new ≡ Sync (file_of beside) (done_answer result) ∷ old
 
@@ -91,12 +93,12 @@ abbrev pub OpensFolder : List ℕ → Option File → List FolderOpen → Type 0
 OpensFolder path folder new = new ≡ record { path = folder_name path; answer = open_answer folder } ∷ []
 
 -- what the system answered where a folder was to be synced
-abbrev pub folder_answer : {E : Type 0} → Result FolderSync E → Option Syncing
-folder_answer (Ok syncs.Done) = Some answers.Done
-folder_answer (Ok syncs.NotOffered) = Some answers.NotOffered
-folder_answer (Err error) = None
+abbrev pub folder_answer : Result FolderSync Error → Result Syncing ErrorKind
+folder_answer (Ok syncs.Done) = Ok answers.Done
+folder_answer (Ok syncs.NotOffered) = Ok answers.NotOffered
+folder_answer (Err error) = Err (error_kind error)
 
 -- a folder was to be synced, if it could be opened; else nothing is offered
-abbrev pub SyncsFolder : {E : Type 0} → Option File → Result FolderSync E → Log → Log → Type 0
+abbrev pub SyncsFolder : Option File → Result FolderSync Error → Log → Log → Type 0
 SyncsFolder None result old new = (result ≡ Ok syncs.NotOffered) × (new ≡ old)
 SyncsFolder (Some folder) result old new = new ≡ Sync folder (folder_answer result) ∷ old

@@ -26,11 +26,11 @@ use Rattle.file_replace.specs.declared.told.NotReplaced.TheVariants as refusals
 abbrev pub Asks : (List HostCall → Type 0) → List HeldCall → List HeldCall → Type 0
 Asks P old new = (calls : List HostCall) × P calls × (new ≡ Asked calls ∷ old)
 
--- the path wasn't opened, so no file was to be put yet: another program has the lock, by the last call; it is no
--- regular file, by the only one; it moved, if that is so; or there is another cause
+-- the path wasn't opened, so no file was to be put yet: another program has the lock, by the last call; it moved, if
+-- that is so; or there is another cause
 abbrev pub IsUnopened : Type 0 → NotReplaced → Log → Type 0
-IsUnopened Moves refusals.InUse new = (file : File) × (past : Log) × (new ≡ Lock file (Some Busy) ∷ past)
-IsUnopened Moves refusals.NotAFile new = (path : List ℕ) × (found : Found) × (is_regular found.kind ≡ false) × (new ≡ Over path (Is found) ∷ [])
+IsUnopened Moves refusals.InUse new = (file : File) × (past : Log) × (new ≡ Lock file (Ok Busy) ∷ past)
+IsUnopened Moves refusals.NotAFile new = ⊥
 IsUnopened Moves refusals.Moved new = Moves
 IsUnopened Moves (refusals.Stopped stop) new = ⊥
 IsUnopened Moves (refusals.NoBackup name stop) new = ⊥
@@ -39,7 +39,7 @@ IsUnopened Moves refusal new = ⊤
 
 -- a file was locked, or its file system has no locks
 abbrev pub IsLocked : File → Log → Log → Type 0
-IsLocked file old new = (new ≡ Lock file (Some Taken) ∷ old) ⊎ (new ≡ Lock file (Some NotOffered) ∷ old)
+IsLocked file old new = (new ≡ Lock file (Ok Taken) ∷ old) ⊎ (new ≡ Lock file (Ok NotOffered) ∷ old)
 
 -- what a path led to, what was opened, and what is at the path that was opened are one regular file
 abbrev pub is_one : Found → Found → Found → Bool
@@ -57,13 +57,13 @@ IsOwn held path file found old new = (here : Found) × (there : Found) × (is_on
 -- the file that a path leads to over links was opened to be read and written, locked, and is the one that was found
 abbrev pub Holds : List ℕ → Held → Found → Log → Log → Type 0
 Holds path held found old new = (followed : Log) × (mid : Log) × Follows path (path_buf_bytes held.path) old followed
-    × IsLocked held.file (Open Both (path_buf_bytes held.path) (Some held.file) ∷ followed) mid × IsOwn held held.path held.file found mid new
+    × IsLocked held.file (Open Both (path_buf_bytes held.path) (Ok held.file) ∷ followed) mid × IsOwn held held.path held.file found mid new
 
 -- a path has nothing, or something else than what was found and what was opened
 abbrev pub HasAnother : Found → Found → Answer → Type 0
 HasAnother found here Nothing = ⊤
 HasAnother found here (Is there) = is_one found here there ≡ false
-HasAnother found here Failed = ⊥
+HasAnother found here (Failed kind) = ⊥
 
 -- this file was opened by this path, and one of both isn't that of what was found
 abbrev pub IsAnother : List ℕ → File → Found → Log → Log → Type 0
@@ -72,20 +72,22 @@ IsAnother to file found old new = (here : Found) × (there : Answer) × HasAnoth
 -- the file that a path leads to over links was opened and locked, and it isn't the one that was found any more
 abbrev pub HoldsAnother : List ℕ → Found → Log → Log → Type 0
 HoldsAnother path found old new = (to : List ℕ) × (file : File) × (followed : Log) × (mid : Log) × Follows path to old followed
-    × IsLocked file (Open Both to (Some file) ∷ followed) mid × IsAnother to file found mid new
+    × IsLocked file (Open Both to (Ok file) ∷ followed) mid × IsAnother to file found mid new
 
--- a path was asked for, and the regular file that it led to is held
+-- A path was asked for, and the regular file that it led to is held. Or what it led to is no regular file, and nothing
+-- else was asked.
 abbrev pub OpensHeld : List ℕ → Result Held NotReplaced → Log → Type 0
 OpensHeld path (Ok held) new = (found : Found) × (is_regular found.kind ≡ true) × Holds path held found (Over path (Is found) ∷ []) new
+OpensHeld path (Err refusals.NotAFile) new = (found : Found) × (is_regular found.kind ≡ false) × (new ≡ Over path (Is found) ∷ [])
 OpensHeld path (Err refusal) new = IsUnopened ((found : Found) × (is_regular found.kind ≡ true) × HoldsAnother path found (Over path (Is found) ∷ []) new) refusal new × OnlyAsks new
 
 -- what was opened isn't a regular file
 abbrev pub IsStream : List ℕ → File → Log → Log → Type 0
-IsStream path file old new = (here : Found) × (is_regular here.kind ≡ false) × (new ≡ Of file (Is here) ∷ Open Write path (Some file) ∷ old)
+IsStream path file old new = (here : Found) × (is_regular here.kind ≡ false) × (new ≡ Of file (Is here) ∷ Open Write path (Ok file) ∷ old)
 
 -- what was opened is a regular file
 abbrev pub IsNoStream : List ℕ → Log → Log → Type 0
-IsNoStream path old new = (file : File) × (here : Found) × (is_regular here.kind ≡ true) × (new ≡ Of file (Is here) ∷ Open Write path (Some file) ∷ old)
+IsNoStream path old new = (file : File) × (here : Found) × (is_regular here.kind ≡ true) × (new ≡ Of file (Is here) ∷ Open Write path (Ok file) ∷ old)
 
 -- what was found at a path was opened, and it is something else now
 abbrev pub HasMoved : List ℕ → Found → Log → Log → Type 0

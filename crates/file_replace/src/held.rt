@@ -84,7 +84,7 @@ impl Held {
     }
 
     /// The same, and notes each call.
-    #[tactic(auto, using(crate::proofs::Opening::never_moved))]
+    #[tactic(auto, using(crate::proofs::Opening::never_moved, crate::proofs::Opening::held_refused, crate::proofs::Opening::held_found))]
     fn open_at(rt: &HostRuntime, path: &str, asked: &mut HostCalls) -> Result<Held, NotReplaced>
         ensures { asked.old.events ≡ [] → OpensHeld path.now result asked.new.events }
     {

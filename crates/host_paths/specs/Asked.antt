@@ -14,7 +14,6 @@ use Rattle.host_paths.specs.declared.host.FileKind.TheVariants as kinds
 use Rattle.host_paths.specs.declared.host.Found.{Found}
 use Rattle.host_paths.specs.declared.host.HostCall.{HostCall}
 use Rattle.host_paths.specs.declared.host.HostCall.TheVariants.{At, Over, Of, ReadLink, Open, Lock, User, Empty}
-use Rattle.host_paths.specs.declared.host.Locking.{Locking}
 use Rattle.host_paths.specs.declared.host.Syncing.{Syncing}
 use Rattle.host_paths.specs.declared.host.Syncing.TheVariants as syncs
 
@@ -23,45 +22,35 @@ abbrev pub Log : Type 0
 Log = List HostCall
 
 -- an answer as it is noted
-abbrev pub answer_of : {E : Type 0} → Result (Option Found) E → Answer
+abbrev pub answer_of : Result (Option Found) Error → Answer
 answer_of (Ok (Some found)) = Is found
 answer_of (Ok None) = Nothing
-answer_of (Err error) = Failed
+answer_of (Err error) = Failed (error_kind error)
 
 -- the same of a file that is open
-abbrev pub said_of : {E : Type 0} → Result Found E → Answer
+abbrev pub said_of : Result Found Error → Answer
 said_of (Ok found) = Is found
-said_of (Err error) = Failed
+said_of (Err error) = Failed (error_kind error)
 
--- the file that was opened, if one was
+-- the file that was made, if one was
 abbrev pub opened : {E : Type 0} → Result File E → Option File
 opened (Ok file) = Some file
 opened (Err error) = None
 
--- the folder that was opened, or of which kind the error was
-abbrev pub folder_or_kind : Result File Error → Result File ErrorKind
-folder_or_kind (Ok folder) = Ok folder
-folder_or_kind (Err error) = Err (error_kind error)
+-- what a call gave, or of which kind the error was
+abbrev pub or_kind : {T : Type 0} → Result T Error → Result T ErrorKind
+or_kind (Ok given) = Ok given
+or_kind (Err error) = Err (error_kind error)
 
--- the path that a link names, if that was read
-abbrev pub named_path : {E : Type 0} → Result (PathBuf Global) E → Option (List ℕ)
-named_path (Ok named) = Some (path_buf_bytes named)
-named_path (Err error) = None
+-- the path that a link names, or of which kind the error was
+abbrev pub named_path : Result (PathBuf Global) Error → Result (List ℕ) ErrorKind
+named_path (Ok named) = Ok (path_buf_bytes named)
+named_path (Err error) = Err (error_kind error)
 
--- how a file was locked, if the call didn't fail
-abbrev pub lock_answer : {E : Type 0} → Result Locking E → Option Locking
-lock_answer (Ok locking) = Some locking
-lock_answer (Err error) = None
-
--- how a file was synced, if the call didn't fail
-abbrev pub sync_answer : {E : Type 0} → Result Syncing E → Option Syncing
-sync_answer (Ok syncing) = Some syncing
-sync_answer (Err error) = None
-
--- a file was synced, if the call didn't fail
-abbrev pub done_answer : {T E : Type 0} → Result T E → Option Syncing
-done_answer (Ok value) = Some syncs.Done
-done_answer (Err error) = None
+-- a file was synced, or of which kind the error was
+abbrev pub done_answer : {T : Type 0} → Result T Error → Result Syncing ErrorKind
+done_answer (Ok value) = Ok syncs.Done
+done_answer (Err error) = Err (error_kind error)
 
 -- the user that was asked for, if one is known
 abbrev pub asked_user : {E : Type 0} → Result ℕ E → Option ℕ
@@ -93,7 +82,7 @@ AsksBoth path file old new = ((answer : Answer) × (new ≡ At path answer ∷ o
 
 -- a path was asked for, and then an open file, and one of the two calls failed
 abbrev pub CantTell : List ℕ → File → Log → Log → Type 0
-CantTell path file old new = (new ≡ At path Failed ∷ old) ⊎ ((there : Found) × (new ≡ Of file Failed ∷ At path (Is there) ∷ old))
+CantTell path file old new = ((kind : ErrorKind) × (new ≡ At path (Failed kind) ∷ old)) ⊎ ((there : Found) × (kind : ErrorKind) × (new ≡ Of file (Failed kind) ∷ At path (Is there) ∷ old))
 
 -- a call that only asks or opens: nothing is made, changed or removed by it
 abbrev pub is_asking : HostCall → Bool

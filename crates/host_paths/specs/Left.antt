@@ -1,5 +1,5 @@
 -- Which files that killed programs left are removed.
-use Rattle.std.specs.Prelude.{◌≡◌, ◌≢◌, ⊤, ◌⊎◌, ℕ, ◌==◌, ◌&&◌, ◌||◌, not, length, Bool, true, false, List, [], ◌∷◌, ◌++◌, Option, Some, None, codes, option_map, unwrap_or}
+use Rattle.std.specs.Prelude.{◌≡◌, ◌≢◌, ⊤, ◌⊎◌, ℕ, ◌==◌, ◌&&◌, ◌||◌, not, length, Bool, true, false, List, [], ◌∷◌, ◌++◌, Option, Some, None, Ok, codes, option_map, unwrap_or}
 use Rattle.std.specs.Char.{is_ascii_digit}
 use Rattle.std.specs.List.{list_all}
 use Rattle.std.specs.Path.{rsplit_once, slash}
@@ -34,7 +34,7 @@ is_of_users found users = is_regular found.kind && (found.user == users.0 || is_
 -- It was found at this path, a regular file of one of these users, opened and locked, and the path is its own still.
 abbrev pub IsLeft : List ℕ → ℕ × Option ℕ → File → Log → Log → Type 0
 IsLeft path users file old new = (found : Found) × (here : Found) × (is_of_users found users ≡ true) × (same_file here found ≡ true)
-    × LeadsTo path file true (Lock file (Some Taken) ∷ Of file (Is here) ∷ Open Read path (Some file) ∷ At path (Is found) ∷ old) new
+    × LeadsTo path file true (Lock file (Ok Taken) ∷ Of file (Is here) ∷ Open Read path (Ok file) ∷ At path (Is found) ∷ old) new
 
 -- what follows the last slash of a path
 abbrev pub last_name : List ℕ → List ℕ
@@ -71,7 +71,7 @@ RemovesNone old new = (users : Users) → KeepsSwept users old new
 abbrev pub owner_found : Answer → Option ℕ
 owner_found (Is found) = Some found.user
 owner_found Nothing = None
-owner_found Failed = None
+owner_found (Failed kind) = None
 
 -- root may have given its new file to the owner of the one at the path, which was asked for
 abbrev pub MayHaveGiven : List ℕ → ℕ → Option ℕ → Log → Log → Type 0

@@ -2,6 +2,7 @@
 use Rattle.std.specs.Prelude.{◌≡◌, ◌⊎◌, ℕ, Bool, true, false, List, ◌∷◌, Option, Some, None, Result, Ok, Err}
 use Rattle.std.specs.Path.{path_buf_bytes}
 use Rattle.std.specs.declared.fs.File.{File}
+use Rattle.std.specs.declared.io.ErrorKind.{ErrorKind}
 use Rattle.host_paths.specs.declared.beside.Beside.{Beside}
 use Rattle.host_paths.specs.declared.host.HostCall.TheVariants.{Lock, Make}
 use Rattle.host_paths.specs.declared.host.Locking.TheVariants.{Taken, Busy, NotOffered}
@@ -23,12 +24,12 @@ mode_of false = 0o666
 
 -- a new file was locked, and its path led to it still; or no lock can be had, or the path can't be asked for
 abbrev pub IsOurs : List ℕ → File → Log → Log → Type 0
-IsOurs path file old new = (new ≡ Lock file (Some NotOffered) ∷ old) ⊎ ((new ≡ Lock file None ∷ old)
-    ⊎ (LeadsTo path file true (Lock file (Some Taken) ∷ old) new ⊎ CantTell path file (Lock file (Some Taken) ∷ old) new))
+IsOurs path file old new = (new ≡ Lock file (Ok NotOffered) ∷ old) ⊎ (((kind : ErrorKind) × (new ≡ Lock file (Err kind) ∷ old))
+    ⊎ (LeadsTo path file true (Lock file (Ok Taken) ∷ old) new ⊎ CantTell path file (Lock file (Ok Taken) ∷ old) new))
 
 -- another program has its lock, or has put another file at its path
 abbrev pub IsOthers : List ℕ → File → Log → Log → Type 0
-IsOthers path file old new = (new ≡ Lock file (Some Busy) ∷ old) ⊎ LeadsTo path file false (Lock file (Some Taken) ∷ old) new
+IsOthers path file old new = (new ≡ Lock file (Ok Busy) ∷ old) ⊎ LeadsTo path file false (Lock file (Ok Taken) ∷ old) new
 
 -- this file was made beside a path, and is locked
 abbrev pub IsMade : List ℕ → Bool → Beside → Log → Log → Type 0

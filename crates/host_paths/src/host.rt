@@ -2,7 +2,7 @@
 //! is said of them rests on this: each function here that notes a call makes that one and no other.
 
 ghost use Rattle.std.specs.Prelude.{◌≡◌, ◌≤◌, ◌∷◌, OnOk, is_ok, length};
-ghost use Rattle.host_paths.specs.Asked.{answer_of, asked_user, done_answer, folder_or_kind, is_folder, is_regular, lock_answer, named_path, opened, said_of, same_file, sync_answer};
+ghost use Rattle.host_paths.specs.Asked.{answer_of, asked_user, done_answer, is_folder, is_regular, named_path, opened, or_kind, said_of, same_file};
 ghost use Rattle.host_paths.specs.Following.{is_link};
 ghost use Rattle.host_paths.specs.declared.host.HostCall.TheVariants.{At, Give, Lock, Make, Of, Open, OpenOrMake, Over, ReadLink, Remove, Rename, SetMode, Sync, User, Write};
 
@@ -50,7 +50,8 @@ pub enum Answer {
     Is(Found),
     /// There is none.
     Nothing,
-    Failed,
+    /// The call failed, with an error of this kind.
+    Failed(ErrorKind),
 }
 
 /// How a file is opened.
@@ -80,7 +81,7 @@ pub enum Syncing {
     NotOffered,
 }
 
-/// A call of the system, with its answer.
+/// A call of the system, with its answer: where it failed, of which kind the error was.
 #[derive(Drop)]
 pub enum HostCall {
     /// It was asked what is at this path. A link isn't followed.
@@ -90,16 +91,16 @@ pub enum HostCall {
     /// It was asked what this open file is.
     Of(File, Answer),
     /// It was asked which path the link at this path names.
-    ReadLink(LinkedList<u8>, Option<LinkedList<u8>>),
+    ReadLink(LinkedList<u8>, Result<LinkedList<u8>, ErrorKind>),
     /// It was to open what this path leads to. Nothing is made or emptied.
-    Open(Access, LinkedList<u8>, Option<File>),
+    Open(Access, LinkedList<u8>, Result<File, ErrorKind>),
     /// It was to open what this path leads to, to read and to write it, and to make it where there is nothing. Nothing
     /// is emptied.
-    OpenOrMake(LinkedList<u8>, Option<File>),
+    OpenOrMake(LinkedList<u8>, Result<File, ErrorKind>),
     /// It was to lock this file, without waiting.
-    Lock(File, Option<Locking>),
+    Lock(File, Result<Locking, ErrorKind>),
     /// It was to sync this file or folder.
-    Sync(File, Option<Syncing>),
+    Sync(File, Result<Syncing, ErrorKind>),
     /// It was to make a file of this mode at this path, which has nothing.
     Make(u32, LinkedList<u8>, Option<File>),
     /// It was to rename what is at the first path to the second, and whether it did.
@@ -215,7 +216,7 @@ fn answer_of(found: &io::Result<Option<Found>>) -> Answer
     match found {
         Ok(Some(found)) => Answer::Is(*found),
         Ok(None) => Answer::Nothing,
-        Err(_) => Answer::Failed,
+        Err(error) => Answer::Failed(error.kind()),
     }
 }
 
@@ -225,7 +226,7 @@ fn said_of(found: &io::Result<Found>) -> Answer
 {
     match found {
         Ok(found) => Answer::Is(*found),
-        Err(_) => Answer::Failed,
+        Err(error) => Answer::Failed(error.kind()),
     }
 }
 
@@ -270,7 +271,7 @@ pub(crate) fn link_at(rt: &HostRuntime, path: &str, log: &mut HostCalls) -> io::
 
 /// Opens what a path leads to. Nothing is made or emptied.
 pub fn open(rt: &HostRuntime, path: &str, access: Access, log: &mut HostCalls) -> io::Result<File>
-    ensures { log.new.events ≡ Open access path.now (opened result) ∷ log.old.events }
+    ensures { log.new.events ≡ Open access path.now (or_kind result) ∷ log.old.events }
 {
     let file = OpenOptions::new()
         .read(access != Access::Write)
@@ -282,7 +283,7 @@ pub fn open(rt: &HostRuntime, path: &str, access: Access, log: &mut HostCalls) -
 
 /// Opens a folder, to sync it.
 pub fn open_to_sync(rt: &HostRuntime, path: &str, log: &mut FolderOpenCalls) -> io::Result<File>
-    ensures { log.new.events ≡ record { path = path.now; answer = folder_or_kind result } ∷ log.old.events }
+    ensures { log.new.events ≡ record { path = path.now; answer = or_kind result } ∷ log.old.events }
 {
     let folder = File::open(rt, path);
     *log = Record::of_events_beside(log, &path, &folder);
@@ -291,7 +292,7 @@ pub fn open_to_sync(rt: &HostRuntime, path: &str, log: &mut FolderOpenCalls) -> 
 
 /// Opens what a path leads to, to read and to write it. A missing file is made, empty. Nothing is emptied.
 pub fn open_or_make(rt: &HostRuntime, path: &str, log: &mut HostCalls) -> io::Result<File>
-    ensures { log.new.events ≡ OpenOrMake path.now (opened result) ∷ log.old.events }
+    ensures { log.new.events ≡ OpenOrMake path.now (or_kind result) ∷ log.old.events }
 {
     let file = OpenOptions::new()
         .read(true)
@@ -304,7 +305,7 @@ pub fn open_or_make(rt: &HostRuntime, path: &str, log: &mut HostCalls) -> io::Re
 
 /// Locks an open file against others that do so, without waiting.
 pub fn lock(file: &File, log: &mut HostCalls) -> io::Result<Locking>
-    ensures { log.new.events ≡ Lock file.now (lock_answer result) ∷ log.old.events }
+    ensures { log.new.events ≡ Lock file.now (or_kind result) ∷ log.old.events }
 {
     let locking = match file.try_lock() {
         Ok(()) => Ok(Locking::Taken),
@@ -320,7 +321,7 @@ pub fn lock(file: &File, log: &mut HostCalls) -> io::Result<Locking>
 
 /// Makes an open file or folder stable, so that a crash leaves it as it is, if that is offered.
 pub fn sync(file: &File, log: &mut HostCalls) -> io::Result<Syncing>
-    ensures { log.new.events ≡ Sync file.now (sync_answer result) ∷ log.old.events }
+    ensures { log.new.events ≡ Sync file.now (or_kind result) ∷ log.old.events }
 {
     let syncing = match file.sync_all() {
         Ok(()) => Ok(Syncing::Done),

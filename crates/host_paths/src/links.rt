@@ -1,9 +1,11 @@
 //! Where a path leads.
 
-ghost use Rattle.std.specs.Prelude.{◌≡◌, ℕ, List, [], ◌∷◌, Some, unwrap_or, IfOk, OnErr};
+ghost use Rattle.std.specs.IoError.{error_kind};
+ghost use Rattle.std.specs.Prelude.{◌≡◌, ◌⊎◌, ℕ, List, [], ◌∷◌, Ok, Err, unwrap_or, IfOk, IfErr, OnErr};
 ghost use Rattle.std.specs.Path.{path_buf_bytes, path_bytes, path_parent};
 ghost use Rattle.host_paths.specs.Asked.{AsksBoth, CantTell, KeepsAsking, LeadsTo, folder_name};
-ghost use Rattle.host_paths.specs.Following.{Follows, after_link, is_link_found};
+ghost use Rattle.host_paths.specs.Following.{CantFollow, Follows, after_link, is_link_found};
+ghost use Rattle.std.specs.declared.io.ErrorKind.TheVariants.{OutOfMemory};
 ghost use Rattle.host_paths.specs.declared.host.HostCall.TheVariants.{ReadLink};
 
 use crate::host::{Found, HostCalls, found_at, found_of, link_at};
@@ -51,7 +53,9 @@ pub fn leads_to(rt: &HostRuntime, path: &str, file: &File, log: &mut HostCalls) 
 /// The path that the link at a path names.
 fn after_link(rt: &HostRuntime, path: &PathBuf, log: &mut HostCalls) -> io::Result<PathBuf>
     ensures after { IfOk result (λ next. (named : List ℕ) × (path_buf_bytes next ≡ after_link (path_buf_bytes path.now) named)
-        × (log.new.events ≡ ReadLink (path_buf_bytes path.now) (Some named) ∷ log.old.events)) }
+        × (log.new.events ≡ ReadLink (path_buf_bytes path.now) (Ok named) ∷ log.old.events)) }
+    ensures fails { IfErr result (λ error. (log.new.events ≡ ReadLink (path_buf_bytes path.now) (Err (error_kind error)) ∷ log.old.events)
+        ⊎ ((named : List ℕ) × (log.new.events ≡ ReadLink (path_buf_bytes path.now) (Ok named) ∷ log.old.events) × (error_kind error ≡ OutOfMemory))) }
     ensures asks { KeepsAsking log.old.events log.new.events }
 {
     let named = link_at(rt, path.as_str(), log)?;
@@ -71,6 +75,7 @@ fn is_link_found(found: &Option<Found>) -> bool
 /// The path of the file that this path leads to, over links. There may be no file. What was asked is noted.
 pub fn follow(rt: &HostRuntime, path: &str, log: &mut HostCalls) -> io::Result<PathBuf>
     ensures follows { IfOk result (λ to. Follows path.now (path_buf_bytes to) log.old.events log.new.events) }
+    ensures fails { IfErr result (λ error. CantFollow path.now (error_kind error) log.old.events log.new.events) }
     ensures asks { KeepsAsking log.old.events log.new.events }
 {
     let mut here = PathBuf::from_str(rt.alloc(), path)?;

@@ -19,7 +19,7 @@ is_shared found owner = not (found.user == owner) && not (bit_and found.mode 0o0
 
 -- this folder was opened by its path and a slash: what is no folder isn't opened so
 abbrev pub Opens : List ℕ → File → Log → Log → Type 0
-Opens path folder old new = new ≡ Open Read (path ++ codes "/") (Some folder) ∷ old
+Opens path folder old new = new ≡ Open Read (path ++ codes "/") (Ok folder) ∷ old
 
 -- this was opened, and is the folder of this user that is at the path, where a link isn't followed
 abbrev pub OpensMade : List ℕ → ℕ → File → Log → Log → Type 0

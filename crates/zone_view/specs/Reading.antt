@@ -1,7 +1,9 @@
 -- How the bytes of a file are read that is looked at.
-use Rattle.std.specs.Prelude.{◌≡◌, ◌⊎◌, ⊤, ℕ, ◌≤◌, true, false, List, ◌∷◌, length, Some, None, Result, Ok, Err, Vec}
+use Rattle.std.specs.Prelude.{◌≡◌, ◌⊎◌, ⊤, ℕ, ◌≤◌, true, false, List, ◌∷◌, length, Result, Ok, Err, Vec}
 use Rattle.std.specs.Global.{Global}
+use Rattle.std.specs.IoError.{error_kind}
 use Rattle.std.specs.declared.fs.File.{File}
+use Rattle.std.specs.declared.io.ErrorKind.{ErrorKind}
 use Rattle.clap.specs.Words.{Text}
 use Rattle.host_paths.specs.Asked.{Log, is_regular}
 use Rattle.host_paths.specs.declared.host.Access.TheVariants.{Read}
@@ -41,25 +43,25 @@ IsReadFault other = ⊥
 -- A path led to a plain file; it was opened to be read, asked what it is, and is this plain file.
 abbrev pub IsOpened : Text → File → Log → Log → Type 0
 IsOpened path file old new = (there : Found) × (here : Found) × (is_regular there.kind ≡ true) × (is_regular here.kind ≡ true)
-    × (new ≡ Of file (Is here) ∷ Open Read path (Some file) ∷ Over path (Is there) ∷ old)
+    × (new ≡ Of file (Is here) ∷ Open Read path (Ok file) ∷ Over path (Is there) ∷ old)
 
 -- a path led to no plain file, or what was opened is none
 abbrev pub IsNotPlain : Text → Log → Log → Type 0
 IsNotPlain path old new = ((there : Found) × (is_regular there.kind ≡ false) × (new ≡ Over path (Is there) ∷ old))
     ⊎ ((there : Found) × (file : File) × (here : Found) × (is_regular here.kind ≡ false)
-    × (new ≡ Of file (Is here) ∷ Open Read path (Some file) ∷ Over path (Is there) ∷ old))
+    × (new ≡ Of file (Is here) ∷ Open Read path (Ok file) ∷ Over path (Is there) ∷ old))
 
--- a call at a path failed
-abbrev pub HasFailed : Text → Log → Log → Type 0
-HasFailed path old new = (new ≡ Over path Failed ∷ old) ⊎ (((there : Found) × (new ≡ Open Read path None ∷ Over path (Is there) ∷ old))
-    ⊎ ((there : Found) × (file : File) × (new ≡ Of file Failed ∷ Open Read path (Some file) ∷ Over path (Is there) ∷ old)))
+-- a call at a path failed, with an error of this kind
+abbrev pub HasFailed : Text → ErrorKind → Log → Log → Type 0
+HasFailed path kind old new = (new ≡ Over path (Failed kind) ∷ old) ⊎ (((there : Found) × (new ≡ Open Read path (Err kind) ∷ Over path (Is there) ∷ old))
+    ⊎ ((there : Found) × (file : File) × (new ≡ Of file (Failed kind) ∷ Open Read path (Ok file) ∷ Over path (Is there) ∷ old)))
 
 -- the plain file of this path was opened, or why it wasn't
 abbrev pub Opens : Text → Result File NotRead → Log → Log → Type 0
 Opens path (Ok file) old new = IsOpened path file old new
 Opens path (Err not_read.Missing) old new = new ≡ Over path Nothing ∷ old
 Opens path (Err not_read.NotPlain) old new = IsNotPlain path old new
-Opens path (Err (not_read.Failed error)) old new = HasFailed path old new
+Opens path (Err (not_read.Failed error)) old new = HasFailed path (error_kind error) old new
 Opens path (Err not_read.TooLong) old new = ⊥
 
 -- just the file of this path was opened, and it was to be read
@@ -73,4 +75,4 @@ IsReading path (Ok bytes) old new = WasRead path (answers.Bytes bytes.items) old
 IsReading path (Err not_read.Missing) old new = (new.calls ≡ Over path Nothing ∷ old.calls) × (new.reads ≡ old.reads)
 IsReading path (Err not_read.NotPlain) old new = IsNotPlain path old.calls new.calls × (new.reads ≡ old.reads)
 IsReading path (Err not_read.TooLong) old new = WasRead path answers.TooLong old new
-IsReading path (Err (not_read.Failed error)) old new = (HasFailed path old.calls new.calls × (new.reads ≡ old.reads)) ⊎ WasRead path answers.Failed old new
+IsReading path (Err (not_read.Failed error)) old new = (HasFailed path (error_kind error) old.calls new.calls × (new.reads ≡ old.reads)) ⊎ WasRead path answers.Failed old new

@@ -1,7 +1,7 @@
 use Rattle.host_paths.specs.declared.host.HostCall.TheVariants.{Lock}
-use Rattle.host_paths.specs.Asked.{lock_answer}
+use Rattle.host_paths.specs.Asked.{or_kind}
 use Rattle.host_paths.proofs.host.lock.Given as goal
 use Rattle.std.proofs.Common.{◌∷◌}
 
 abbrev pub ghost-of_events_beside : goal.ghost-of_events_beside
-ghost-of_events_beside a = Lock a._first.now (lock_answer a._second.now) ∷ a._past.now.events
+ghost-of_events_beside a = Lock a._first.now (or_kind a._second.now) ∷ a._past.now.events

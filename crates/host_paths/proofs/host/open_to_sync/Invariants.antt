@@ -1,6 +1,6 @@
-use Rattle.host_paths.specs.Asked.{folder_or_kind}
+use Rattle.host_paths.specs.Asked.{or_kind}
 use Rattle.host_paths.proofs.host.open_to_sync.Given as goal
 use Rattle.std.proofs.Common.{◌∷◌}
 
 abbrev pub ghost-of_events_beside : goal.ghost-of_events_beside
-ghost-of_events_beside a = record { path = a._first.now.now; answer = folder_or_kind a._second.now } ∷ a._past.now.events
+ghost-of_events_beside a = record { path = a._first.now.now; answer = or_kind a._second.now } ∷ a._past.now.events

@@ -1,7 +1,7 @@
 use Rattle.host_paths.specs.declared.host.HostCall.TheVariants.{Sync}
-use Rattle.host_paths.specs.Asked.{sync_answer}
+use Rattle.host_paths.specs.Asked.{or_kind}
 use Rattle.host_paths.proofs.host.sync.Given as goal
 use Rattle.std.proofs.Common.{◌∷◌}
 
 abbrev pub ghost-of_events_beside : goal.ghost-of_events_beside
-ghost-of_events_beside a = Sync a._first.now (sync_answer a._second.now) ∷ a._past.now.events
+ghost-of_events_beside a = Sync a._first.now (or_kind a._second.now) ∷ a._past.now.events
