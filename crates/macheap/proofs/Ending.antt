@@ -17,15 +17,16 @@ use Rattle.macheap.specs.declared.asked.Asked.{Asked}
 use Rattle.macheap.specs.declared.asked.Asked.TheVariants.{Run, Help}
 use Rattle.macheap.specs.declared.asked.NotAsked.{NotAsked}
 use Rattle.macheap.specs.declared.asked.NotAsked.TheVariants.{Words, TooManyForks, OtherJournals, NoNumber, Mode, Spec, HostFull}
-use Rattle.macheap.specs.declared.stores.AnyStore.{AnyStore}
-use Rattle.macheap.specs.declared.stores.AnyStore.TheVariants.{Alone, Journalled}
-use Rattle.macheap.specs.declared.stores.NoStores.{NoStores}
-use Rattle.macheap.specs.declared.stores.NoStores.TheVariants as why
+use Rattle.run_stores.specs.declared.stores.AnyStore.{AnyStore}
+use Rattle.run_stores.specs.declared.stores.AnyStore.TheVariants.{Alone, Journalled}
+use Rattle.run_stores.specs.declared.stores.NoStores.{NoStores}
+use Rattle.run_stores.specs.declared.stores.NoStores.TheVariants as why
 use Rattle.macheap.specs.Asking.{Asks}
-use Rattle.macheap.specs.declared.claimed.Naming.TheVariants.{Once, Repeated}
-use Rattle.macheap.specs.Program.{Parts, Done, Told, Answers, AsksForNothing, NoStoresEnd, NoneNoted, Refuses, ProgramEnds, Because, RunEnds, RunsOver, SaysWhy, TellsBadWords, TellsNoMemory, Wrote, lacks_memory, over_plain, over_journalled, unopened, no_stores, ran, helped, refused, full_words}
-use Rattle.macheap.specs.Stores.{ArePlain, AreJournalled, IsOpened, Opening}
-use Rattle.macheap.proofs.Opening.{cant_widen, some_widen}
+use Rattle.run_stores.specs.declared.claimed.Naming.{Naming}
+use Rattle.run_stores.specs.declared.claimed.Naming.TheVariants.{Once, Repeated}
+use Rattle.macheap.specs.Program.{Parts, Done, Told, Answers, AsksForNothing, NoStoresEnd, NoneNoted, Refuses, ProgramEnds, Because, RunEnds, RunsOver, SaysWhy, TellsBadWords, TellsNoMemory, Wrote, lacks_memory, naming_of, over_plain, over_journalled, unopened, no_stores, ran, helped, refused, full_words}
+use Rattle.run_stores.specs.Stores.{ArePlain, AreJournalled, IsOpened, OneCantBeOpened, Opening, SomeOpened}
+use Rattle.run_stores.proofs.Opening.{cant_widen, no_names, some_names, some_widen}
 
 -- what one write wrote
 pub wrote : (whole : Bool) (text written : List ℕ) (Same Failed : Type 0) → MatchBool whole (written ≡ text) (IsProperFront written text) → MatchBool whole Same Failed → Wrote text Failed written
@@ -115,12 +116,13 @@ module _ {S : Type 0} (store : Ghosts S) (sizes : ZoneSizes) (done : Done) where
       → done.told.status ≡ status_of end → SaysWhy end done.told.silent done.told.tell_failed done.told.said → RunsOver store sizes stores noted left done
   ran_over stores noted left end read write ends status says = record { end = end; ends = ends; because = because end done.read_failed done.told.write_failed read write; status = status; says = says }
 
-pub no_names : {B : Type 0} (now : B → Text) (names : List B) → length names ≡ 0 → map now names ≡ []
-no_names now [] none = refl
-no_names now (name ∷ names) none = absurd (omega (arith, none))
+naming_alone : (journals : List Text) → journals ≡ [] → naming_of journals ≡ Repeated
+naming_alone [] none = refl
+naming_alone (journal ∷ journals) none = cc
 
-pub some_names : {B : Type 0} (now : B → Text) (names : List B) → length names ≢ 0 → map now names ≢ []
-some_names now names some none = some (sym (length-map names now) ∙ ap length none)
+naming_each : (journals : List Text) → journals ≢ [] → naming_of journals ≡ Once
+naming_each [] some = absurd (some refl)
+naming_each (journal ∷ journals) some = refl
 
 module _ {F S J B : Type 0} (parts : Parts F S J) (sizes : ZoneSizes) (now : B → Text) (forks journals : List B) (openings : List (Opening F)) (noted : AnyMoments S J) (done : Done) where
   abbrev Ran : List (AnyStore S J) → Type 0
@@ -131,14 +133,19 @@ module _ {F S J B : Type 0} (parts : Parts F S J) (sizes : ZoneSizes) (now : B �
   plain_ran names stores left same none are runs others =
       over_plain stores left (no_names now journals none) (subst (λ (fs : List B). ArePlain parts.files parts.store parts.plain (map now fs) openings stores) same are) runs others refl
 
-  forks_unopened : (fault : NoStores) → length journals ≡ 0 → IsOpened {T = ℕ} Repeated (map now forks) openings (λ made. ⊤) (Err fault) → NoneNoted noted → NoStoresEnd fault done.told → Ran []
-  forks_unopened (why.CannotOpen path reason) none cant nothing ends =
-      unopened path.now reason (cant_widen (map now forks) (map now journals) openings path.now reason cant.0) (λ twice. let never : Repeated ≡ Once = cant.1 twice in cc) refl nothing ends
-  forks_unopened why.HostFull none some nothing ends = no_stores (some_widen (map now forks) (map now journals) openings some) refl nothing ends
+  forks_unopened : (fault : NoStores) → length journals ≡ 0 → IsOpened {T = ℕ} parts.files Repeated (map now forks) openings (λ made. ⊤) (Err fault) → NoneNoted noted → NoStoresEnd fault done.told → Ran []
+  forks_unopened (why.CannotOpen path refusal) none cant nothing ends =
+      unopened path.now refusal
+      (subst (λ (n : Naming). OneCantBeOpened parts.files n (map now forks ++ map now journals) openings path.now refusal) (sym (naming_alone (map now journals) (no_names now journals none)))
+      (cant_widen parts.files Repeated (map now forks) (map now journals) openings path.now refusal cant.0))
+      (λ twice. let never : Repeated ≡ Once = cant.1 twice in cc) refl nothing ends
+  forks_unopened why.HostFull none some nothing ends =
+      no_stores (subst (λ (n : Naming). SomeOpened parts.files n (map now forks ++ map now journals) openings) (sym (naming_alone (map now journals) (no_names now journals none)))
+      (some_widen parts.files Repeated (map now forks) (map now journals) openings (λ _. no_names now journals none) some)) refl nothing ends
 
   -- or without them
-  pub plain_unopened : (names : List B) (fault : NoStores) → names ≡ forks → length journals ≡ 0 → IsOpened {T = ℕ} Repeated (map now names) openings (λ made. ⊤) (Err fault) → NoneNoted noted → NoStoresEnd fault done.told → Ran []
-  plain_unopened names fault same none opened = forks_unopened fault none (subst (λ (fs : List B). IsOpened {T = ℕ} Repeated (map now fs) openings (λ made. ⊤) (Err fault)) same opened)
+  pub plain_unopened : (names : List B) (fault : NoStores) → names ≡ forks → length journals ≡ 0 → IsOpened {T = ℕ} parts.files Repeated (map now names) openings (λ made. ⊤) (Err fault) → NoneNoted noted → NoStoresEnd fault done.told → Ran []
+  plain_unopened names fault same none opened = forks_unopened fault none (subst (λ (fs : List B). IsOpened {T = ℕ} parts.files Repeated (map now fs) openings (λ made. ⊤) (Err fault)) same opened)
 
   -- a run over forks with journals
   pub journalled_ran : (names journal_names : List B) (stores left : List J) → names ≡ forks → journal_names ≡ journals → length journals ≢ 0
@@ -148,13 +155,17 @@ module _ {F S J B : Type 0} (parts : Parts F S J) (sizes : ZoneSizes) (now : B �
       (subst (λ (js : List B). AreJournalled parts.files parts.pairs (map now forks ++ map now js) openings stores) theirs
       (subst (λ (fs : List B). AreJournalled parts.files parts.pairs (map now fs ++ map now journal_names) openings stores) same are)) runs others refl
 
-  pairs_unopened : (fault : NoStores) → length journals ≢ 0 → IsOpened {T = ℕ} Once (map now forks ++ map now journals) openings (λ made. ⊤) (Err fault) → NoneNoted noted → NoStoresEnd fault done.told → Ran []
-  pairs_unopened (why.CannotOpen path reason) some cant nothing ends = unopened path.now reason cant.0 (λ twice. some_names now journals some) refl nothing ends
-  pairs_unopened why.HostFull some few nothing ends = no_stores few refl nothing ends
+  pairs_unopened : (fault : NoStores) → length journals ≢ 0 → IsOpened {T = ℕ} parts.files Once (map now forks ++ map now journals) openings (λ made. ⊤) (Err fault) → NoneNoted noted → NoStoresEnd fault done.told → Ran []
+  pairs_unopened (why.CannotOpen path refusal) some cant nothing ends =
+      unopened path.now refusal
+      (subst (λ (n : Naming). OneCantBeOpened parts.files n (map now forks ++ map now journals) openings path.now refusal) (sym (naming_each (map now journals) (some_names now journals some))) cant.0)
+      (λ twice. some_names now journals some) refl nothing ends
+  pairs_unopened why.HostFull some few nothing ends =
+      no_stores (subst (λ (n : Naming). SomeOpened parts.files n (map now forks ++ map now journals) openings) (sym (naming_each (map now journals) (some_names now journals some))) few) refl nothing ends
 
   -- or without them
   pub journalled_unopened : (names journal_names : List B) (fault : NoStores) → names ≡ forks → journal_names ≡ journals → length journals ≢ 0
-      → IsOpened {T = ℕ} Once (map now names ++ map now journal_names) openings (λ made. ⊤) (Err fault) → NoneNoted noted → NoStoresEnd fault done.told → Ran []
+      → IsOpened {T = ℕ} parts.files Once (map now names ++ map now journal_names) openings (λ made. ⊤) (Err fault) → NoneNoted noted → NoStoresEnd fault done.told → Ran []
   journalled_unopened names journal_names fault same theirs some opened = pairs_unopened fault some
-      (subst (λ (js : List B). IsOpened {T = ℕ} Once (map now forks ++ map now js) openings (λ made. ⊤) (Err fault)) theirs
-      (subst (λ (fs : List B). IsOpened {T = ℕ} Once (map now fs ++ map now journal_names) openings (λ made. ⊤) (Err fault)) same opened))
+      (subst (λ (js : List B). IsOpened {T = ℕ} parts.files Once (map now forks ++ map now js) openings (λ made. ⊤) (Err fault)) theirs
+      (subst (λ (fs : List B). IsOpened {T = ℕ} parts.files Once (map now fs ++ map now journal_names) openings (λ made. ⊤) (Err fault)) same opened))

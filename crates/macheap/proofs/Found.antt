@@ -18,7 +18,8 @@ use Rattle.macheap.specs.declared.asked.Asked.{Asked}
 use Rattle.macheap.specs.declared.asked.Asked.TheVariants.{Run, Help}
 use Rattle.macheap.specs.declared.asked.NotAsked.{NotAsked}
 use Rattle.macheap.specs.declared.asked.NotAsked.TheVariants.{Words, TooManyForks, OtherJournals, NoNumber, Mode, Spec, HostFull}
-use Rattle.macheap.specs.Files.{most_files, FitForks, NotNamed}
+use Rattle.run_stores.specs.Stores.{most_files}
+use Rattle.macheap.specs.Files.{FitForks, NotNamed}
 use Rattle.macheap.specs.Options.{options, faults, forks_of, journals_of, value_of, values_of, IsDecimal, IsNumberOf, IsNoNumber}
 use Rattle.macheap.specs.Asking.{Asks, IsShown, Match, GivesNoNumber, MeansNoRun, IsNoNumberFault}
 

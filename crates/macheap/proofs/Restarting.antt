@@ -5,7 +5,7 @@ use Rattle.fork_disk.specs.Crash.{Finds}
 use Rattle.macheap.specs.Program.{Parts}
 use Rattle.script_run.specs.Seen.{Crash, StartsOn}
 use Rattle.macheap.specs.Restarting.{StartsOnDisk}
-use Rattle.macheap.specs.Stores.{ArePaired}
+use Rattle.run_stores.specs.Stores.{ArePaired}
 
 module _ {F S J : Type 0} (parts : Parts F S J) where
   abbrev IsFound : List parts.with_journal.Event → J → Type 0

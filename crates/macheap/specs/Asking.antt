@@ -10,7 +10,8 @@ use Rattle.macheap.specs.declared.asked.Asked.{Asked}
 use Rattle.macheap.specs.declared.asked.Asked.TheVariants.{Run, Help}
 use Rattle.macheap.specs.declared.asked.NotAsked.{NotAsked}
 use Rattle.macheap.specs.declared.asked.NotAsked.TheVariants.{Words, TooManyForks, OtherJournals, NoNumber, Mode, Spec, HostFull}
-use Rattle.macheap.specs.Files.{most_files, FitForks}
+use Rattle.run_stores.specs.Stores.{most_files}
+use Rattle.macheap.specs.Files.{FitForks}
 use Rattle.macheap.specs.Options.{faults, allows_large, forks_of, heads_of, journals_of, value_of, IsNumberOf, IsNoNumber}
 
 -- the words match the options, and name no more files than a run may have, with a journal for each or none

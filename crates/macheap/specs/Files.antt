@@ -1,11 +1,8 @@
 -- The files that a run is over.
 use Rattle.std.specs.Prelude.{◌≡◌, ◌≢◌, ◌<◌, ℕ, List, length, ⊤}
+use Rattle.run_stores.specs.Stores.{most_files}
 use Rattle.macheap.specs.declared.asked.NotAsked.{NotAsked}
 use Rattle.macheap.specs.declared.asked.NotAsked.TheVariants.{TooManyForks, OtherJournals, HostFull}
-
--- a run is over this many files at most
-abbrev pub most_files : ℕ
-most_files = 8
 
 -- there are no journals, or one for each fork
 abbrev pub FitForks : {A B : Type 0} → List A → List B → Type 0

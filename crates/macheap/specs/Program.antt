@@ -1,5 +1,5 @@
 -- What the program does with its words and its input.
-use Rattle.std.specs.Prelude.{◌≡◌, ◌≢◌, ℕ, ◌⊎◌, Bool, true, false, List, [], ◌++◌, map, codes, Option, unwrap_or, ⊤}
+use Rattle.std.specs.Prelude.{◌≡◌, ◌≢◌, ℕ, ◌⊎◌, Bool, true, false, List, [], ◌∷◌, ◌++◌, map, codes, Option, unwrap_or, ⊤}
 use Rattle.clap.specs.Words.{Text, IsAmong, kind_of}
 use Rattle.clap.specs.declared.error.kind.ErrorKind.{ErrorKind}
 use Rattle.clap.specs.declared.error.kind.ErrorKind.TheVariants.{DisplayVersion}
@@ -21,16 +21,19 @@ use Rattle.macheap.specs.declared.asked.Asked.TheVariants.{Run, Help}
 use Rattle.macheap.specs.declared.asked.NotAsked.{NotAsked}
 use Rattle.macheap.specs.declared.asked.NotAsked.TheVariants.{HostFull}
 use Rattle.macheap.specs.Asking.{AsksForRun, DontMatch, IsShown, NamesTooMany, JournalsDontFit, GivesNoNumber, GivesNoMode, GivesNoZone}
-use Rattle.macheap.specs.declared.opened.NotOpened.{NotOpened}
+use Rattle.run_stores.specs.declared.claimed.Naming.{Naming}
+use Rattle.run_stores.specs.declared.claimed.Naming.TheVariants.{Once, Repeated}
+use Rattle.run_stores.specs.declared.opened.NotOpened.{NotOpened}
+use Rattle.run_stores.specs.declared.opened.Refusal.{Refusal}
 use Rattle.macheap.specs.Options.{faults}
-use Rattle.macheap.specs.Opening.{reason}
-use Rattle.macheap.specs.Claiming.{Asking}
-use Rattle.macheap.specs.declared.opened.NotOpened.TheVariants.{Twice}
-use Rattle.macheap.specs.declared.stores.AnyStore.{AnyStore}
-use Rattle.macheap.specs.declared.stores.AnyStore.TheVariants.{Alone, Journalled}
-use Rattle.macheap.specs.declared.stores.NoStores.{NoStores}
-use Rattle.macheap.specs.declared.stores.NoStores.TheVariants as why
-use Rattle.macheap.specs.Stores.{Opening, ArePlain, AreJournalled, OneCantBeOpened, SomeOpened}
+use Rattle.run_stores.specs.Opening.{reason}
+use Rattle.run_stores.specs.Claiming.{Asking}
+use Rattle.run_stores.specs.declared.opened.NotOpened.TheVariants.{Twice}
+use Rattle.run_stores.specs.declared.stores.AnyStore.{AnyStore}
+use Rattle.run_stores.specs.declared.stores.AnyStore.TheVariants.{Alone, Journalled}
+use Rattle.run_stores.specs.declared.stores.NoStores.{NoStores}
+use Rattle.run_stores.specs.declared.stores.NoStores.TheVariants as why
+use Rattle.run_stores.specs.Stores.{Opening, ArePlain, AreJournalled, OneCantBeOpened, SomeOpened}
 
 -- What must have failed where a run ended so: a read, a write, or nothing.
 abbrev pub Because : RunEnd → Type 0 → Type 0 → Type 0
@@ -142,7 +145,7 @@ pub record TellsCannotOpen (path : Text) (reason_of : NotOpened) (told : Told) :
 
 -- There are no stores: a file can't be opened, or the host has no memory.
 abbrev pub NoStoresEnd : NoStores → Told → Type 0
-NoStoresEnd (why.CannotOpen path reason_of) told = TellsCannotOpen path.now reason_of told
+NoStoresEnd (why.CannotOpen path refusal) told = TellsCannotOpen path.now refusal.why told
 NoStoresEnd why.HostFull told = TellsNoMemory told
 
 -- What is said where a run ended so: some text on the first line that is none, and else nothing.
@@ -170,6 +173,11 @@ pub record Parts (F S J : Type 0) : Type 1 where
   pub plain : ℕ → F → S → Type 0
   pub pairs : ℕ → F → F → J → Type 0
 
+-- how a run may name a file: once where there are journals, and else several times
+abbrev pub naming_of : List Text → Naming
+naming_of [] = Repeated
+naming_of (journal ∷ journals) = Once
+
 -- no moments were noted
 abbrev pub NoneNoted : {S J : Type 0} → AnyMoments S J → Type 0
 NoneNoted noted = (noted.alone ≡ []) × (noted.journalled ≡ [])
@@ -181,8 +189,8 @@ NoneNoted noted = (noted.alone ≡ []) × (noted.journalled ≡ [])
 pub data RunEnds {F S J : Type 0} (parts : Parts F S J) (sizes : ZoneSizes) (forks journals : List Text) (openings : List (Opening F)) (closed : List (AnyStore S J)) (noted : AnyMoments S J) (done : Done) : Type 0 where
   over_plain : (stores left : List S) → journals ≡ [] → ArePlain parts.files parts.store parts.plain forks openings stores → RunsOver parts.store sizes stores noted.alone left done → noted.journalled ≡ [] → closed ≡ map Alone left → RunEnds parts sizes forks journals openings closed noted done
   over_journalled : (stores left : List J) → journals ≢ [] → AreJournalled parts.files parts.pairs (forks ++ journals) openings stores → RunsOver parts.with_journal sizes stores noted.journalled left done → noted.alone ≡ [] → closed ≡ map Journalled left → RunEnds parts sizes forks journals openings closed noted done
-  unopened : (path : Text) (reason_of : NotOpened) → OneCantBeOpened (forks ++ journals) openings path reason_of → (reason_of ≡ Twice → journals ≢ []) → closed ≡ [] → NoneNoted noted → TellsCannotOpen path reason_of done.told → RunEnds parts sizes forks journals openings closed noted done
-  no_stores : SomeOpened (forks ++ journals) openings → closed ≡ [] → NoneNoted noted → TellsNoMemory done.told → RunEnds parts sizes forks journals openings closed noted done
+  unopened : (path : Text) (refusal : Refusal) → OneCantBeOpened parts.files (naming_of journals) (forks ++ journals) openings path refusal → (refusal.why ≡ Twice → journals ≢ []) → closed ≡ [] → NoneNoted noted → TellsCannotOpen path refusal.why done.told → RunEnds parts sizes forks journals openings closed noted done
+  no_stores : SomeOpened parts.files (naming_of journals) (forks ++ journals) openings → closed ≡ [] → NoneNoted noted → TellsNoMemory done.told → RunEnds parts sizes forks journals openings closed noted done
 
 -- no file was asked for, no store was closed, no moments were noted, and nothing was read
 abbrev pub AsksForNothing : {F S J T : Type 0} → List (Opening F) → List T → AnyMoments S J → Done → Type 0

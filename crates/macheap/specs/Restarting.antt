@@ -4,7 +4,7 @@ use Rattle.std.specs.Option.{IsSomeAnd}
 use Rattle.clap.specs.Words.{Text}
 use Rattle.script_run.specs.Seen.{Crash}
 use Rattle.macheap.specs.Program.{Parts}
-use Rattle.macheap.specs.Stores.{AreJournalled, Opening}
+use Rattle.run_stores.specs.Stores.{AreJournalled, Opening}
 
 -- The next run starts on the disk as the crash left it: its stores are those of files that it opened, and what it finds
 -- on the disk under the store of this number is a fork that a start may find then.

@@ -1,7 +1,8 @@
 //! The files that a run is over.
 
 ghost use Rattle.std.specs.Prelude.{◌≡◌, ◌≤◌, length, IfOk, IfErr};
-ghost use Rattle.macheap.specs.Files.{most_files, FitForks, NotNamed};
+ghost use Rattle.macheap.specs.Files.{FitForks, NotNamed};
+ghost use Rattle.run_stores.specs.Stores.{most_files};
 
 use crate::asked::NotAsked;
 use std::alloc::Global;

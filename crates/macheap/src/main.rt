@@ -3,26 +3,21 @@
 #![tactic(auto)]
 
 mod asked;
-mod claimed;
-mod disk;
 mod files;
 mod moments;
 mod name;
-mod opened;
 mod program;
-mod stores;
 
-use disk::Disk;
 use fork_disk::store::PlainStore;
 use fork_disk::{Unknown, World};
 use fork_journal::{FilePair, Journal, PairWorld, UnknownPair};
 use moments::AnyMoments;
 use program::{BAD_WORDS, program};
+use run_stores::{Disk, HostDisks};
 use script_run::{Counted, status, tell_no_memory};
 use std::io::ErrorKind;
 use std::process::ExitCode;
 use std::{env, io};
-use stores::HostDisks;
 use zone_view::{Acts, asks_for_look, looked};
 
 fn main(rt: HostRuntime) -> ExitCode {

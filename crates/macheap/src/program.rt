@@ -2,7 +2,6 @@
 
 ghost use Rattle.std.specs.Prelude.{◌≡◌, ◌≢◌, ◌≤◌, ◌++◌, [], ℕ, List, length, map};
 ghost use Rattle.clap.specs.Words.{kind_of};
-ghost use Rattle.macheap.specs.Files.{most_files};
 ghost use Rattle.script_run.specs.Counting.{RoseByOne, Took};
 ghost use Rattle.script_run.specs.Exact.{RunsAgree};
 ghost use Rattle.script_run.specs.Headline.{RunShows};
@@ -11,21 +10,20 @@ ghost use Rattle.script_run.specs.Seen.{KeepsSeen, StartsOn};
 ghost use Rattle.script_run.specs.Turns.{Notes};
 ghost use Rattle.macheap.specs.Program.{Answers, AnyNotes, Did, HelpEnds, NoStoresEnd, ProgramEnds, Refuses, RunEnds, RunsOver, SaysWhy, Tells, Wrote, cannot_open_text, lacks_memory, opening_of};
 ghost use Rattle.macheap.specs.Restarting.{StartsOnDisk};
-ghost use Rattle.macheap.specs.Stores.{Opening};
-ghost use Rattle.macheap.specs.declared.stores.AnyStore.{AnyStore};
+ghost use Rattle.run_stores.specs.Stores.{Opening, most_files};
+ghost use Rattle.run_stores.specs.declared.stores.AnyStore.{AnyStore};
 
 use crate::asked::{Asked, NotAsked, asked_by};
 use crate::files::Files;
 use crate::moments::AnyMoments;
 use crate::name::write_name;
-use crate::opened::NotOpened;
-use crate::stores::{
-    NoStores, Opens, close_alone, close_journalled, journalled_stores, plain_stores,
-};
 use clap::error::ErrorKind;
 use fork_disk::store::ForkStore;
 use mac_base::zone_spec::ZoneSpec;
 use path_text::{Lines, in_lines};
+use run_stores::{
+    NoStores, NotOpened, Opens, close_alone, close_journalled, journalled_stores, plain_stores,
+};
 use script_run::{Counted, Moments, RunEnd, run, status, tell_no_memory, write_whole};
 use script_text::Wrong;
 use std::alloc::{AllocError, Global};
@@ -281,8 +279,8 @@ fn tell_no_stores<W: Write, M: Write>(
 {
     match fault {
         NoStores::HostFull => status(tell_no_memory(output)),
-        NoStores::CannotOpen(path, why) => {
-            tell_unopened(path, why, messages);
+        NoStores::CannotOpen(path, refusal) => {
+            tell_unopened(path, refusal.why, messages);
             CANNOT_OPEN
         }
     }

@@ -5,8 +5,8 @@ use Rattle.script_run.proofs.Known.{Gave-none}
 use Rattle.script_run.proofs.Noting.{noted-none}
 use Rattle.macheap.specs.Program.{Parts}
 use Rattle.macheap.specs.declared.moments.AnyMoments.{AnyMoments}
-use Rattle.macheap.specs.declared.stores.AnyStore.{AnyStore}
-use Rattle.macheap.specs.declared.stores.AnyStore.TheVariants.{Alone}
+use Rattle.run_stores.specs.declared.stores.AnyStore.{AnyStore}
+use Rattle.run_stores.specs.declared.stores.AnyStore.TheVariants.{Alone}
 use Rattle.macheap.proofs.Ending.{plain_ran, plain_unopened}
 use Rattle.macheap.proofs.program.run_alone.Goals as goal
 

@@ -2,7 +2,7 @@ use Rattle.std.proofs.Common.{◌≡◌, ◌++◌, ℕ, List, codes, ap, sym, su
 use Rattle.path_text.specs.FileNames.{shown_name}
 use Rattle.script_run.specs.Run.{IsProperFront}
 use Rattle.script_run.proofs.Known.{Took-then}
-use Rattle.macheap.specs.Opening.{reason}
+use Rattle.run_stores.specs.Opening.{reason}
 use Rattle.macheap.proofs.Ending.{failed_after, front_after, front_of_more, wrote, wrote_after}
 use Rattle.macheap.proofs.program.tell_unopened.Goals as goal
 

@@ -1,5 +1,0 @@
-use Rattle.std.proofs.Common.{◌++◌, ◌∷◌, []}
-use Rattle.macheap.proofs.stores.note_closed.Given as goal
-
-abbrev pub ghost-of_events_beside : goal.ghost-of_events_beside
-ghost-of_events_beside g a = a._past.now.events ++ a._first.now ∷ []

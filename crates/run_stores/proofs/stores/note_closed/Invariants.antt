@@ -1,0 +1,5 @@
+use Rattle.std.proofs.Common.{◌++◌, ◌∷◌, []}
+use Rattle.run_stores.proofs.stores.note_closed.Given as goal
+
+abbrev pub ghost-of_events_beside : goal.ghost-of_events_beside
+ghost-of_events_beside g a = a._past.now.events ++ a._first.now ∷ []

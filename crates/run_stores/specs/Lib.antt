@@ -1,0 +1,5 @@
+pub mod Disks
+pub mod Opening
+pub mod Claiming
+pub mod Refusing
+pub mod Stores
