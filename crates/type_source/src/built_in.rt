@@ -21,7 +21,8 @@ type 'vers' {
 /* Windows, dialogs and alerts. What goes on to the end is where the window is to be. */
 type 'WIND' {
     rect;
-    integer documentProc, dBoxProc, plainDBox, altDBoxProc, noGrowDocProc, movableDBoxProc, zoomDocProc = 8, zoomNoGrow = 12, rDocProc = 16;
+    integer documentProc, dBoxProc, plainDBox, altDBoxProc, noGrowDocProc, movableDBoxProc,
+        zoomDocProc = 8, zoomNoGrow = 12, rDocProc = 16;
     byte invisible, visible;
     fill byte;
     byte noGoAway, goAway;
@@ -32,7 +33,8 @@ type 'WIND' {
 };
 type 'DLOG' {
     rect;
-    integer documentProc, dBoxProc, plainDBox, altDBoxProc, noGrowDocProc, movableDBoxProc, zoomDocProc = 8, zoomNoGrow = 12, rDocProc = 16;
+    integer documentProc, dBoxProc, plainDBox, altDBoxProc, noGrowDocProc, movableDBoxProc,
+        zoomDocProc = 8, zoomNoGrow = 12, rDocProc = 16;
     byte invisible, visible;
     fill byte;
     byte noGoAway, goAway;
