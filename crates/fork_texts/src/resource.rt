@@ -1,0 +1,70 @@
+//! The texts among the parts of a resource.
+
+use crate::declared::TextType;
+use crate::entry::{Entry, text_from};
+use crate::place::Before;
+use fork_change::row::ResourceId;
+use mac_base::resource::ResType;
+use res_types::value::Part;
+use std::alloc::{AllocError, Global};
+
+/// The type of resources that is called so, if it is one of those that have texts.
+pub(crate) fn type_of(types: &[TextType], kind: ResType) -> Option<&TextType> {
+    types.iter().find(|one| one.kind == kind)
+}
+
+/// Adds the text of a part, if it is one that has a place.
+fn push_shown(
+    alloc: Global,
+    entries: &mut Vec<Entry>,
+    what: ResourceId,
+    before: &Before,
+    part: &Part,
+) -> Result<(), AllocError> {
+    if let (Some(place), Part::Text(text)) = (before.place(part), part) {
+        entries.push(Entry {
+            what,
+            place,
+            text: text_from(alloc, text.as_slice())?,
+        })?;
+    }
+    Ok(())
+}
+
+/// Adds the texts of the parts of a resource, those that have a place.
+pub(crate) fn push_texts(
+    alloc: Global,
+    entries: &mut Vec<Entry>,
+    what: ResourceId,
+    one: &TextType,
+    parts: &[Part],
+) -> Result<(), AllocError> {
+    let mut before = Before::start(one.naming);
+    for part in parts {
+        push_shown(alloc, entries, what, &before, part)?;
+        before = before.after(part);
+    }
+    Ok(())
+}
+
+/// Gives the parts of a resource these texts, one after the other, where a text has a place. All else stays.
+pub(crate) fn fill(
+    alloc: Global,
+    one: &TextType,
+    parts: &mut Vec<Part>,
+    texts: &[Entry],
+) -> Result<(), AllocError> {
+    let mut before = Before::start(one.naming);
+    let mut left = texts;
+    for at in 0..parts.len() {
+        let place = before.place(&parts[at]);
+        before = before.after(&parts[at]);
+        if place.is_some() {
+            if let Some((first, others)) = left.split_first() {
+                parts[at] = Part::Text(text_from(alloc, first.text.as_slice())?);
+                left = others;
+            }
+        }
+    }
+    Ok(())
+}
