@@ -1,5 +1,8 @@
 //! Why texts aren't put.
 
+ghost use Rattle.std.specs.Prelude.{◌≡◌, length};
+ghost use Rattle.fork_texts.specs.declared.fault.ReadError.TheVariants.{HostFull, Refused};
+
 use std::alloc::{AllocError, AllocFailed};
 use std::fmt;
 use thiserror::Error;
@@ -73,19 +76,25 @@ pub(crate) enum ReadError {
 }
 
 impl From<AllocError> for ReadError {
+    ghost from_gives = { λ _ e. e ≡ HostFull };
+
     fn from(_: AllocError) -> ReadError {
         ReadError::HostFull
     }
 }
 
 impl<T: Drop> From<AllocFailed<T>> for ReadError {
+    ghost from_gives = { λ _ e. e ≡ HostFull };
+
     fn from(_: AllocFailed<T>) -> ReadError {
         ReadError::HostFull
     }
 }
 
 /// Something is wrong where this text is left.
-pub(crate) fn refused(text: &[u8], why: Why) -> ReadError {
+pub(crate) fn refused(text: &[u8], why: Why) -> ReadError
+    ensures { result ≡ Refused (record { left = length text.now; why = why }) }
+{
     ReadError::Refused(Fault {
         left: text.len(),
         why,

@@ -2,7 +2,7 @@
 //! and a table whose texts are those of such lines. Which fields of a resource are texts is declared for each type.
 #![tactic(auto)]
 
-mod declared;
+mod kinds;
 mod entry;
 pub mod fault;
 mod line;
@@ -14,7 +14,7 @@ mod roman;
 mod row;
 mod table;
 
-pub use declared::{Naming, TextType, text_types};
+pub use kinds::{Naming, TextType, text_types};
 pub use entry::Entry;
 pub use place::Place;
 pub use table::{Listed, put_texts, rows_of, texts_of};

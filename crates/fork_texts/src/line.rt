@@ -1,5 +1,9 @@
 //! A text as a line.
 
+ghost use Rattle.std.specs.Prelude.{◌≡◌, ◌++◌, ◌∷◌, [], ◌≤◌, ◌<◌, IfOk, OnOk, length, replicate};
+ghost use Rattle.std.specs.List.{flat_map};
+ghost use Rattle.fork_texts.specs.Lines.{bare_length, digits, head_text, kind_text, kind_written, line_text, place_text, quoted, written};
+
 use crate::entry::Entry;
 use crate::place::Place;
 use fork_list::hexadecimal_digit;
@@ -20,7 +24,9 @@ pub(crate) struct Line {
 }
 
 /// Adds a byte in two hexadecimal digits.
-fn push_digits(out: &mut Vec<u8>, byte: u8) -> Result<(), AllocError> {
+fn push_digits(out: &mut Vec<u8>, byte: u8) -> Result<(), AllocError>
+    ensures { OnOk result (out.new.items ≡ out.old.items ++ digits byte) }
+{
     out.extend_from_slice(b"\\x")?;
     out.push(hexadecimal_digit(byte / 16) as u8)?;
     out.push(hexadecimal_digit(byte % 16) as u8)?;
@@ -28,14 +34,18 @@ fn push_digits(out: &mut Vec<u8>, byte: u8) -> Result<(), AllocError> {
 }
 
 /// Adds a backslash and a letter.
-fn push_escape(out: &mut Vec<u8>, letter: u8) -> Result<(), AllocError> {
+fn push_escape(out: &mut Vec<u8>, letter: u8) -> Result<(), AllocError>
+    ensures { OnOk result (out.new.items ≡ out.old.items ++ 92 ∷ letter ∷ []) }
+{
     out.push(b'\\')?;
     out.push(letter)?;
     Ok(())
 }
 
 /// Adds a byte of a text between quotes.
-fn push_byte(out: &mut Vec<u8>, byte: u8) -> Result<(), AllocError> {
+fn push_byte(out: &mut Vec<u8>, byte: u8) -> Result<(), AllocError>
+    ensures { OnOk result (out.new.items ≡ out.old.items ++ written byte) }
+{
     match byte {
         b'\r' => push_escape(out, b'n'),
         b'\t' => push_escape(out, b't'),
@@ -46,7 +56,9 @@ fn push_byte(out: &mut Vec<u8>, byte: u8) -> Result<(), AllocError> {
 }
 
 /// Adds a text between quotes.
-fn push_quoted(out: &mut Vec<u8>, text: &[u8]) -> Result<(), AllocError> {
+fn push_quoted(out: &mut Vec<u8>, text: &[u8]) -> Result<(), AllocError>
+    ensures { OnOk result (out.new.items ≡ out.old.items ++ quoted text.now) }
+{
     out.push(b'"')?;
     for byte in text {
         push_byte(out, *byte)?;
@@ -56,7 +68,9 @@ fn push_quoted(out: &mut Vec<u8>, text: &[u8]) -> Result<(), AllocError> {
 }
 
 /// Adds a byte of a type, in which a blank is `\x20`.
-fn push_kind_byte(out: &mut Vec<u8>, byte: u8) -> Result<(), AllocError> {
+fn push_kind_byte(out: &mut Vec<u8>, byte: u8) -> Result<(), AllocError>
+    ensures { OnOk result (out.new.items ≡ out.old.items ++ kind_written byte) }
+{
     if byte == b' ' {
         push_digits(out, byte)
     } else {
@@ -65,7 +79,10 @@ fn push_kind_byte(out: &mut Vec<u8>, byte: u8) -> Result<(), AllocError> {
 }
 
 /// How many bytes of a type there are without the blanks at its end: one at least.
-fn bare_length(kind: &[u8; 4]) -> usize {
+fn bare_length(kind: &[u8; 4]) -> usize
+    ensures length { result ≡ bare_length kind.now }
+    ensures most { result ≤ 4 }
+{
     if kind[3] != b' ' {
         4
     } else if kind[2] != b' ' {
@@ -78,7 +95,9 @@ fn bare_length(kind: &[u8; 4]) -> usize {
 }
 
 /// Adds a type, without the blanks at its end.
-fn push_kind(out: &mut Vec<u8>, kind: ResType) -> Result<(), AllocError> {
+fn push_kind(out: &mut Vec<u8>, kind: ResType) -> Result<(), AllocError>
+    ensures { OnOk result (out.new.items ≡ out.old.items ++ kind_text kind) }
+{
     let bytes = kind.bytes();
     for byte in &bytes[..bare_length(&bytes)] {
         push_kind_byte(out, *byte)?;
@@ -87,7 +106,9 @@ fn push_kind(out: &mut Vec<u8>, kind: ResType) -> Result<(), AllocError> {
 }
 
 /// Adds the words for a place.
-fn push_place(alloc: Global, out: &mut Vec<u8>, place: Place) -> Result<(), AllocError> {
+fn push_place(alloc: Global, out: &mut Vec<u8>, place: Place) -> Result<(), AllocError>
+    ensures { OnOk result (out.new.items ≡ out.old.items ++ place_text place) }
+{
     match place {
         Place::Whole => Ok(()),
         Place::Name => Ok(out.extend_from_slice(b" name")?),
@@ -105,7 +126,9 @@ fn push_place(alloc: Global, out: &mut Vec<u8>, place: Place) -> Result<(), Allo
 }
 
 /// What a line has before its text, without blanks at the end.
-fn head_of(alloc: Global, entry: &Entry) -> Result<Vec<u8>, AllocError> {
+fn head_of(alloc: Global, entry: &Entry) -> Result<Vec<u8>, AllocError>
+    ensures { IfOk result (λ head. head.items ≡ head_text entry.now) }
+{
     let mut out = Vec::new(alloc);
     push_kind(&mut out, entry.what.kind)?;
     out.push(b' ')?;
@@ -116,7 +139,9 @@ fn head_of(alloc: Global, entry: &Entry) -> Result<Vec<u8>, AllocError> {
 }
 
 /// Adds so many blanks.
-fn push_blanks(out: &mut Vec<u8>, count: usize) -> Result<(), AllocError> {
+fn push_blanks(out: &mut Vec<u8>, count: usize) -> Result<(), AllocError>
+    ensures { OnOk result (out.new.items ≡ out.old.items ++ replicate count 32) }
+{
     for _blank in 0..count {
         out.push(b' ')?;
     }
@@ -124,7 +149,9 @@ fn push_blanks(out: &mut Vec<u8>, count: usize) -> Result<(), AllocError> {
 }
 
 /// Adds the line of a text, in MacRoman: the type and the id of its resource, its place, and its bytes between quotes.
-pub(crate) fn push_line(alloc: Global, out: &mut Vec<u8>, entry: &Entry) -> Result<(), AllocError> {
+pub(crate) fn push_line(alloc: Global, out: &mut Vec<u8>, entry: &Entry) -> Result<(), AllocError>
+    ensures { OnOk result (out.new.items ≡ out.old.items ++ line_text entry.now) }
+{
     let head = head_of(alloc, entry)?;
     out.extend_from_slice(&head)?;
     push_blanks(out, 1 + (COLUMN - 1).saturating_sub(head.len()))?;

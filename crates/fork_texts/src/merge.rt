@@ -1,5 +1,8 @@
 //! Texts that take the place of others.
 
+ghost use Rattle.std.specs.Prelude.{◌≡◌, IfOk};
+ghost use Rattle.fork_texts.specs.Putting.{merged};
+
 use crate::entry::Entry;
 use crate::line::Line;
 use std::alloc::{AllocError, Global};
@@ -17,7 +20,10 @@ pub(crate) fn merge<'a>(
     alloc: Global,
     entries: &[Entry],
     lines: &'a [Line],
-) -> Result<Merged<'a>, AllocError> {
+) -> Result<Merged<'a>, AllocError>
+    ensures entries { IfOk result (λ m. m.entries.items ≡ (merged entries.now lines.entry.now).entries) }
+    ensures left { IfOk result (λ m. m.left.now ≡ (merged entries.now lines.entry.now).left) }
+{
     let mut merged = Vec::new(alloc);
     let mut left = lines;
     for entry in entries {

@@ -1,6 +1,9 @@
 //! The places of texts in a resource.
 
-use crate::declared::Naming;
+ghost use Rattle.std.specs.Prelude.{◌≡◌, ◌==◌, ◌+◌, ◌<◌, ◌^◌, if◌then◌else◌, IfSome, None, Some};
+ghost use Rattle.fork_texts.specs.Places.{after, has_text, place_at, start, text_place};
+
+use crate::kinds::Naming;
 use res_types::value::Part;
 
 /// Where a text is in its resource.
@@ -32,18 +35,24 @@ pub(crate) struct Before {
 
 /// Whether an item of a dialog has a text: a button, a check box, a radio button, a static text or an edit text (Inside
 /// Macintosh: Macintosh Toolbox Essentials, chapter 6). The highest bit says that it is disabled.
-fn has_text(kind: u32) -> bool {
+fn has_text(kind: u32) -> bool
+    ensures { result ≡ has_text kind }
+{
     matches!(kind % 128, 4 | 5 | 6 | 8 | 16)
 }
 
 /// The n-th of some places.
-fn only(texts: usize, place: Place) -> Option<Place> {
+fn only(texts: usize, place: Place) -> Option<Place>
+    ensures { result ≡ (if texts == 0 then Some place else None) }
+{
     if texts == 0 { Some(place) } else { None }
 }
 
 impl Before {
     /// What is before the first part.
-    pub fn start(naming: Naming) -> Before {
+    pub fn start(naming: Naming) -> Before
+        ensures { result ≡ start naming }
+    {
         Before {
             naming,
             texts: 0,
@@ -52,7 +61,10 @@ impl Before {
     }
 
     /// The place of a text that comes next, if it has one.
-    fn text_place(&self) -> Option<Place> {
+    fn text_place(&self) -> Option<Place>
+        requires { self.now.texts < 2 ^ 63 }
+        ensures { result ≡ text_place self.now.naming self.now.texts self.now.number }
+    {
         match self.naming {
             Naming::Whole => only(self.texts, Place::Whole),
             Naming::Title => only(self.texts, Place::Title),
@@ -67,7 +79,10 @@ impl Before {
     }
 
     /// The place of the part that comes next, if it is a text that has one.
-    pub fn place(&self, part: &Part) -> Option<Place> {
+    pub fn place(&self, part: &Part) -> Option<Place>
+        requires { self.now.texts < 2 ^ 63 }
+        ensures { result ≡ place_at self.now part.now }
+    {
         match part {
             Part::Text(_) => self.text_place(),
             Part::Number(_) | Part::Elements(_) | Part::Case(_) => None,
@@ -75,7 +90,10 @@ impl Before {
     }
 
     /// What is before the part after this one.
-    pub fn after(self, part: &Part) -> Before {
+    pub fn after(self, part: &Part) -> Before
+        requires { self.texts < 2 ^ 63 }
+        ensures { result ≡ after self part.now }
+    {
         match part {
             Part::Text(_) => Before {
                 texts: self.texts + 1,

@@ -1,5 +1,8 @@
 //! Lines are read as texts and their places.
 
+ghost use Rattle.std.specs.Prelude.{◌≡◌, ◌≤◌, ◌<◌, [], IfOk, length, option_map};
+ghost use Rattle.fork_texts.specs.Reading.{Gives, after_blanks, after_lines, byte_at, digits_at, escape_at, head_at, id_at, is_blank, is_digit, is_stop, kind_at, kind_of, line_at, line_end_at, lines_at, number_at, number_from, numbered_at, place_at, quoted_at, run_at, word_at};
+
 use crate::entry::Entry;
 use crate::fault::{ReadError, Why, refused};
 use crate::line::Line;
@@ -13,7 +16,7 @@ use std::alloc::Global;
 const KIND_LENGTH: usize = 4;
 
 /// The greatest number of a place.
-const MOST: u32 = 99999;
+const MOST: u32 = 99999999;
 
 /// What a run of characters ends with.
 #[derive(Clone, Copy)]
@@ -23,13 +26,17 @@ enum Stop {
 }
 
 /// Whether a byte is a blank, a tab, or a carriage return before the end of a line.
-fn is_blank(byte: u8) -> bool {
+fn is_blank(byte: u8) -> bool
+    ensures { result ≡ is_blank byte }
+{
     byte == b' ' || byte == b'\t' || byte == b'\r'
 }
 
 impl Stop {
     /// Whether this byte is it.
-    fn is(self, byte: u8) -> bool {
+    fn is(self, byte: u8) -> bool
+        ensures { result ≡ is_stop self byte }
+    {
         match self {
             Stop::Blank => is_blank(byte),
             Stop::Quote => byte == b'"',
@@ -38,7 +45,9 @@ impl Stop {
 }
 
 /// The text after blanks.
-fn after_blanks(text: &[u8]) -> &[u8] {
+fn after_blanks(text: &[u8]) -> &[u8]
+    ensures { result.now ≡ after_blanks text.now }
+{
     let mut rest = text;
     while let Some((byte, after)) = rest.split_first() {
         if !is_blank(*byte) {
@@ -50,7 +59,9 @@ fn after_blanks(text: &[u8]) -> &[u8] {
 }
 
 /// The text after blanks and the ends of lines.
-fn after_lines(text: &[u8]) -> &[u8] {
+fn after_lines(text: &[u8]) -> &[u8]
+    ensures { result.now ≡ after_lines text.now }
+{
     let mut rest = text;
     while let Some((byte, after)) = rest.split_first() {
         if !is_blank(*byte) && *byte != b'\n' {
@@ -62,7 +73,10 @@ fn after_lines(text: &[u8]) -> &[u8] {
 }
 
 /// The byte after `\x`, in two hexadecimal digits of either case.
-fn digits_at(text: &[u8]) -> Result<(u8, &[u8]), ReadError> {
+#[tactic(auto, unfolding(crate::specs::Reading::digits_at))]
+fn digits_at(text: &[u8]) -> Result<(u8, &[u8]), ReadError>
+    ensures { Gives (λ x. (x.0, x.1.now)) result (digits_at text.now) }
+{
     if let [high, low, rest @ ..] = text {
         let high = char::from(*high).to_digit(16);
         let low = char::from(*low).to_digit(16);
@@ -74,7 +88,10 @@ fn digits_at(text: &[u8]) -> Result<(u8, &[u8]), ReadError> {
 }
 
 /// The byte after a backslash.
-fn escape_at(text: &[u8]) -> Result<(u8, &[u8]), ReadError> {
+#[tactic(auto, unfolding(crate::specs::Reading::escape_at))]
+fn escape_at(text: &[u8]) -> Result<(u8, &[u8]), ReadError>
+    ensures { Gives (λ x. (x.0, x.1.now)) result (escape_at text.now) }
+{
     match text {
         [b'n', rest @ ..] => Ok((b'\r', rest)),
         [b't', rest @ ..] => Ok((b'\t', rest)),
@@ -86,7 +103,10 @@ fn escape_at(text: &[u8]) -> Result<(u8, &[u8]), ReadError> {
 }
 
 /// A byte of a text or a type.
-fn byte_at(text: &[u8]) -> Result<(u8, &[u8]), ReadError> {
+#[tactic(auto, unfolding(crate::specs::Reading::byte_at))]
+fn byte_at(text: &[u8]) -> Result<(u8, &[u8]), ReadError>
+    ensures { Gives (λ x. (x.0, x.1.now)) result (byte_at text.now) }
+{
     match text {
         [b'\\', rest @ ..] => escape_at(rest),
         [byte, rest @ ..] if *byte >= b' ' && *byte != 127 => Ok((*byte, rest)),
@@ -95,7 +115,10 @@ fn byte_at(text: &[u8]) -> Result<(u8, &[u8]), ReadError> {
 }
 
 /// The bytes before a stop, which is there, and the text from it on.
-fn bytes_at(alloc: Global, stop: Stop, text: &[u8]) -> Result<(Vec<u8>, &[u8]), ReadError> {
+#[tactic(auto, unfolding(crate::specs::Reading::run_at))]
+fn bytes_at(alloc: Global, stop: Stop, text: &[u8]) -> Result<(Vec<u8>, &[u8]), ReadError>
+    ensures { Gives (λ x. (x.0.items, x.1.now)) result (run_at stop (length text.now) [] text.now) }
+{
     let mut bytes = Vec::new(alloc);
     let mut rest = text;
     for _turn in 0..text.len() {
@@ -112,7 +135,9 @@ fn bytes_at(alloc: Global, stop: Stop, text: &[u8]) -> Result<(Vec<u8>, &[u8]), 
 }
 
 /// The type of these bytes: blanks at its end make them four.
-fn kind_of(bytes: &[u8]) -> Option<ResType> {
+fn kind_of(bytes: &[u8]) -> Option<ResType>
+    ensures { result ≡ kind_of bytes.now }
+{
     match bytes {
         [a] => Some(ResType::new([*a, b' ', b' ', b' '])),
         [a, b] => Some(ResType::new([*a, *b, b' ', b' '])),
@@ -123,7 +148,10 @@ fn kind_of(bytes: &[u8]) -> Option<ResType> {
 }
 
 /// A type.
-fn kind_at(alloc: Global, text: &[u8]) -> Result<(ResType, &[u8]), ReadError> {
+#[tactic(auto, unfolding(crate::specs::Reading::kind_at))]
+fn kind_at(alloc: Global, text: &[u8]) -> Result<(ResType, &[u8]), ReadError>
+    ensures { Gives (λ x. (x.0, x.1.now)) result (kind_at text.now) }
+{
     let (bytes, rest) = bytes_at(alloc, Stop::Blank, text)?;
     match kind_of(&bytes) {
         Some(kind) => Ok((kind, rest)),
@@ -132,12 +160,18 @@ fn kind_at(alloc: Global, text: &[u8]) -> Result<(ResType, &[u8]), ReadError> {
 }
 
 /// Whether a byte is a decimal digit.
-fn is_digit(byte: u8) -> bool {
+fn is_digit(byte: u8) -> bool
+    ensures { result ≡ is_digit byte }
+{
     b'0' <= byte && byte <= b'9'
 }
 
 /// The number that digits go on with, up to a limit.
-fn number_from(why: Why, limit: u32, text: &[u8]) -> Result<(u32, &[u8]), ReadError> {
+fn number_from(why: Why, limit: u32, text: &[u8]) -> Result<(u32, &[u8]), ReadError>
+    requires { limit ≤ 99999999 }
+    ensures number { Gives (λ x. (x.0, x.1.now)) result (number_from why limit 0 text.now) }
+    ensures within { IfOk result (λ x. x.0 ≤ limit) }
+{
     let mut number = 0;
     let mut rest = text;
     while let Some((byte, after)) = rest.split_first() {
@@ -155,7 +189,12 @@ fn number_from(why: Why, limit: u32, text: &[u8]) -> Result<(u32, &[u8]), ReadEr
 }
 
 /// A number in digits, up to a limit.
-fn number_at(why: Why, limit: u32, text: &[u8]) -> Result<(u32, &[u8]), ReadError> {
+#[tactic(auto, unfolding(crate::specs::Reading::number_at))]
+fn number_at(why: Why, limit: u32, text: &[u8]) -> Result<(u32, &[u8]), ReadError>
+    requires { limit ≤ 99999999 }
+    ensures number { Gives (λ x. (x.0, x.1.now)) result (number_at why limit text.now) }
+    ensures within { IfOk result (λ x. x.0 ≤ limit) }
+{
     match text.first() {
         Some(byte) if is_digit(*byte) => number_from(why, limit, text),
         _ => Err(refused(text, why)),
@@ -163,7 +202,10 @@ fn number_at(why: Why, limit: u32, text: &[u8]) -> Result<(u32, &[u8]), ReadErro
 }
 
 /// An id.
-fn id_at(text: &[u8]) -> Result<(i16, &[u8]), ReadError> {
+#[tactic(auto, unfolding(crate::specs::Reading::id_at))]
+fn id_at(text: &[u8]) -> Result<(i16, &[u8]), ReadError>
+    ensures { Gives (λ x. (x.0, x.1.now)) result (id_at text.now) }
+{
     match text.strip_prefix(b"-") {
         Some(digits) => {
             let (number, rest) = number_at(Why::Id, 32768, digits)?;
@@ -177,7 +219,10 @@ fn id_at(text: &[u8]) -> Result<(i16, &[u8]), ReadError> {
 }
 
 /// The number of a place, after its bracket.
-fn numbered_at(text: &[u8]) -> Result<(Place, &[u8]), ReadError> {
+#[tactic(auto, unfolding(crate::specs::Reading::numbered_at))]
+fn numbered_at(text: &[u8]) -> Result<(Place, &[u8]), ReadError>
+    ensures { Gives (λ x. (x.0, x.1.now)) result (numbered_at text.now) }
+{
     let (number, rest) = number_at(Why::Place, MOST, text)?;
     match rest.strip_prefix(b"]") {
         Some(rest) => Ok((Place::Numbered(number as usize), rest)),
@@ -186,12 +231,17 @@ fn numbered_at(text: &[u8]) -> Result<(Place, &[u8]), ReadError> {
 }
 
 /// The place of this word, and the text after it, if the text begins with it.
-fn word_at<'a>(word: &[u8], place: Place, text: &'a [u8]) -> Option<(Place, &'a [u8])> {
+fn word_at<'a>(word: &[u8], place: Place, text: &'a [u8]) -> Option<(Place, &'a [u8])>
+    ensures { option_map (λ x. (x.0, x.1.now)) result ≡ word_at word.now place text.entry.now }
+{
     Some((place, text.strip_prefix(word)?))
 }
 
 /// A place.
-fn place_at(text: &[u8]) -> Result<(Place, &[u8]), ReadError> {
+#[tactic(auto, unfolding(crate::specs::Reading::place_at))]
+fn place_at(text: &[u8]) -> Result<(Place, &[u8]), ReadError>
+    ensures { Gives (λ x. (x.0, x.1.now)) result (place_at text.now) }
+{
     if let Some(rest) = text.strip_prefix(b"[") {
         return numbered_at(rest);
     }
@@ -207,7 +257,10 @@ fn place_at(text: &[u8]) -> Result<(Place, &[u8]), ReadError> {
 }
 
 /// A text between quotes.
-fn quoted_at(alloc: Global, text: &[u8]) -> Result<(Vec<u8>, &[u8]), ReadError> {
+#[tactic(auto, unfolding(crate::specs::Reading::quoted_at))]
+fn quoted_at(alloc: Global, text: &[u8]) -> Result<(Vec<u8>, &[u8]), ReadError>
+    ensures { Gives (λ x. (x.0.items, x.1.now)) result (quoted_at text.now) }
+{
     let Some(inner) = text.strip_prefix(b"\"") else {
         return Err(refused(text, Why::Quote));
     };
@@ -219,7 +272,10 @@ fn quoted_at(alloc: Global, text: &[u8]) -> Result<(Vec<u8>, &[u8]), ReadError> 
 }
 
 /// The text after the end of a line.
-fn line_end_at(text: &[u8]) -> Result<&[u8], ReadError> {
+#[tactic(auto, unfolding(crate::specs::Reading::line_end_at))]
+fn line_end_at(text: &[u8]) -> Result<&[u8], ReadError>
+    ensures { Gives (λ rest. rest.now) result (line_end_at text.now) }
+{
     let end = after_blanks(text);
     match end {
         [] => Ok(end),
@@ -229,7 +285,10 @@ fn line_end_at(text: &[u8]) -> Result<&[u8], ReadError> {
 }
 
 /// A type, an id and a place, and the text after them and after blanks.
-fn head_at(alloc: Global, text: &[u8]) -> Result<(ResourceId, Place, &[u8]), ReadError> {
+#[tactic(auto, unfolding(crate::specs::Reading::head_at))]
+fn head_at(alloc: Global, text: &[u8]) -> Result<(ResourceId, Place, &[u8]), ReadError>
+    ensures { Gives (λ x. (x.0, x.1, x.2.now)) result (head_at text.now) }
+{
     let (kind, rest) = kind_at(alloc, text)?;
     let (id, rest) = id_at(after_blanks(rest))?;
     let (place, rest) = place_at(after_blanks(rest))?;
@@ -237,7 +296,10 @@ fn head_at(alloc: Global, text: &[u8]) -> Result<(ResourceId, Place, &[u8]), Rea
 }
 
 /// A line, which doesn't begin with a blank.
-fn line_at(alloc: Global, text: &[u8]) -> Result<(Line, &[u8]), ReadError> {
+#[tactic(auto, unfolding(crate::specs::Reading::line_at))]
+fn line_at(alloc: Global, text: &[u8]) -> Result<(Line, &[u8]), ReadError>
+    ensures { Gives (λ x. (x.0, x.1.now)) result (line_at text.now) }
+{
     let (what, place, inner) = head_at(alloc, text)?;
     let (bytes, rest) = quoted_at(alloc, inner)?;
     let rest = line_end_at(rest)?;
@@ -255,7 +317,10 @@ fn line_at(alloc: Global, text: &[u8]) -> Result<(Line, &[u8]), ReadError> {
 
 /// The lines of a text in MacRoman; lines of blanks are passed over. A text is refused at the first place that isn't
 /// such a line.
-pub(crate) fn lines_at(alloc: Global, text: &[u8]) -> Result<Vec<Line>, ReadError> {
+#[tactic(auto, unfolding(crate::specs::Reading::lines_at))]
+pub(crate) fn lines_at(alloc: Global, text: &[u8]) -> Result<Vec<Line>, ReadError>
+    ensures { Gives (λ lines. lines.items) result (lines_at text.now) }
+{
     let mut lines = Vec::new(alloc);
     let mut rest = after_lines(text);
     for _turn in 0..text.len() {

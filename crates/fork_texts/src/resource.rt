@@ -1,6 +1,11 @@
 //! The texts among the parts of a resource.
 
-use crate::declared::TextType;
+ghost use Rattle.std.specs.Prelude.{◌≡◌, ◌++◌, ◌<◌, ◌^◌, IfOk, OnOk, length, option_copied};
+ghost use Rattle.fork_texts.specs.Kinds.{type_of};
+ghost use Rattle.fork_texts.specs.Places.{place_at, start};
+ghost use Rattle.fork_texts.specs.Texts.{filled, shown, shown_part};
+
+use crate::kinds::TextType;
 use crate::entry::{Entry, text_from};
 use crate::place::Before;
 use fork_change::row::ResourceId;
@@ -9,7 +14,9 @@ use res_types::value::Part;
 use std::alloc::{AllocError, Global};
 
 /// The type of resources that is called so, if it is one of those that have texts.
-pub(crate) fn type_of(types: &[TextType], kind: ResType) -> Option<&TextType> {
+pub(crate) fn type_of(types: &[TextType], kind: ResType) -> Option<&TextType>
+    ensures { option_copied result ≡ type_of types.now kind }
+{
     types.iter().find(|one| one.kind == kind)
 }
 
@@ -20,7 +27,10 @@ fn push_shown(
     what: ResourceId,
     before: &Before,
     part: &Part,
-) -> Result<(), AllocError> {
+) -> Result<(), AllocError>
+    requires { before.now.texts < 2 ^ 63 }
+    ensures { OnOk result (entries.new.items ≡ entries.old.items ++ shown_part what (place_at before.now part.now) part.now) }
+{
     if let (Some(place), Part::Text(text)) = (before.place(part), part) {
         entries.push(Entry {
             what,
@@ -38,7 +48,9 @@ pub(crate) fn push_texts(
     what: ResourceId,
     one: &TextType,
     parts: &[Part],
-) -> Result<(), AllocError> {
+) -> Result<(), AllocError>
+    ensures { OnOk result (entries.new.items ≡ entries.old.items ++ shown what (start one.now.naming) parts.now) }
+{
     let mut before = Before::start(one.naming);
     for part in parts {
         push_shown(alloc, entries, what, &before, part)?;
@@ -53,7 +65,9 @@ pub(crate) fn fill(
     one: &TextType,
     parts: &mut Vec<Part>,
     texts: &[Entry],
-) -> Result<(), AllocError> {
+) -> Result<(), AllocError>
+    ensures { OnOk result (parts.new.items ≡ filled (start one.now.naming) parts.old.items texts.now) }
+{
     let mut before = Before::start(one.naming);
     let mut left = texts;
     for at in 0..parts.len() {

@@ -1,14 +1,21 @@
 //! The texts of a table as lines, and a table with the texts of lines.
 
-use crate::declared::TextType;
-use crate::entry::Entry;
+ghost use Rattle.std.specs.Prelude.{◌≡◌, ◌++◌, ℕ, List, IfErr, IfOk, OnOk, string_bytes};
+ghost use Rattle.fork_bytes.specs.Rows.{Row};
+ghost use Rattle.fork_list.specs.Roman.{roman_text};
+ghost use Rattle.fork_texts.specs.Putting.{Becomes, BecomesNone, Puts, merged};
+ghost use Rattle.fork_texts.specs.Tables.{PutsNone, PutsText, Refuses, TextPutsNone, has_text, lines_of, odd_of, position, refusal_of, row_lines, why_left};
+ghost use Rattle.fork_texts.specs.Texts.{entries_of, is_typed};
+ghost use Rattle.fork_texts.specs.declared.fault.TextFault.TheVariants.{Refused};
+
+use crate::entry::same_entries;
 use crate::fault::{Fault, ReadError, Refusal, TextFault, Why};
+use crate::kinds::TextType;
 use crate::line::{Line, push_line};
 use crate::merge::merge;
 use crate::reading::lines_at;
 use crate::roman::roman_of;
 use crate::row::{entries_of, id_of, push_entries, row_of, row_with};
-use crate::entry::same_entries;
 use fork_bytes::table::Row;
 use fork_change::row::ResourceId;
 use fork_list::text_of;
@@ -30,7 +37,10 @@ fn push_lines(
     out: &mut Vec<u8>,
     types: &[TextType],
     row: &Row,
-) -> Result<bool, AllocError> {
+) -> Result<bool, AllocError>
+    ensures lines { OnOk result (out.new.items ≡ out.old.items ++ row_lines types.now row.now) }
+    ensures typed { IfOk result (λ is. is ≡ is_typed types.now row.now) }
+{
     let mut entries = Vec::new(alloc);
     let is_typed = push_entries(alloc, &mut entries, types, row)?;
     for entry in &entries {
@@ -41,7 +51,10 @@ fn push_lines(
 
 /// The texts of rows of these types, and the names of all rows, a line for each, in the order of the bytes. The only
 /// error is that the host has no memory.
-pub fn texts_of(alloc: Global, types: &[TextType], rows: &[Row]) -> Result<Listed, AllocError> {
+pub fn texts_of(alloc: Global, types: &[TextType], rows: &[Row]) -> Result<Listed, AllocError>
+    ensures lines { IfOk result (λ listed. string_bytes listed.lines ≡ roman_text (lines_of types.now rows.now)) }
+    ensures odd { IfOk result (λ listed. listed.odd.items ≡ odd_of types.now rows.now) }
+{
     let mut out = Vec::new(alloc);
     let mut odd = Vec::new(alloc);
     for row in rows {
@@ -73,7 +86,11 @@ fn put_row<'a>(
     types: &[TextType],
     row: &Row,
     lines: &'a [Line],
-) -> Result<(Option<Resource<Text>>, &'a [Line]), ReadError> {
+) -> Result<(Option<Resource<Text>>, &'a [Line]), ReadError>
+    ensures row { IfOk result (λ x. Becomes types.now row.now (merged (entries_of types.now row.now) lines.entry.now).entries x.0) }
+    ensures left { IfOk result (λ x. x.1.now ≡ (merged (entries_of types.now row.now) lines.entry.now).left) }
+    ensures none { IfErr result (BecomesNone types.now row.now (merged (entries_of types.now row.now) lines.entry.now).entries) }
+{
     let entries = entries_of(alloc, types, row)?;
     let merged = merge(alloc, &entries, lines)?;
     let left = merged.left;
@@ -99,7 +116,9 @@ fn has_text(
     types: &[TextType],
     row: &Row,
     line: &Line,
-) -> Result<bool, AllocError> {
+) -> Result<bool, AllocError>
+    ensures { IfOk result (λ has. has ≡ has_text types.now line.now row.now) }
+{
     let entries = entries_of(alloc, types, row)?;
     Ok(entries.iter().any(|entry| line.entry.is_at(entry)))
 }
@@ -110,7 +129,9 @@ fn why_left(
     types: &[TextType],
     rows: &[Row],
     line: &Line,
-) -> Result<Why, AllocError> {
+) -> Result<Why, AllocError>
+    ensures { IfOk result (λ why. why ≡ why_left types.now rows.now line.now) }
+{
     for row in rows {
         if has_text(alloc, types, row, line)? {
             return Ok(Why::Order);
@@ -125,7 +146,10 @@ fn put_lines(
     types: &[TextType],
     rows: &[Row],
     lines: &[Line],
-) -> Result<Vec<Resource<Text>>, ReadError> {
+) -> Result<Vec<Resource<Text>>, ReadError>
+    ensures puts { IfOk result (λ changed. Puts types.now rows.now lines.now changed.items) }
+    ensures none { IfErr result (PutsNone types.now rows.now lines.now) }
+{
     let mut changed = Vec::new(alloc);
     let mut left = lines;
     for row in rows {
@@ -145,7 +169,9 @@ fn put_lines(
 }
 
 /// The line and the column, from 1 on, after these bytes.
-fn position_after(bytes: &[u8]) -> (usize, usize) {
+fn position_after(bytes: &[u8]) -> (usize, usize)
+    ensures { result ≡ position 1 1 bytes.now }
+{
     let mut line = 1;
     let mut column = 1;
     for byte in bytes {
@@ -160,7 +186,9 @@ fn position_after(bytes: &[u8]) -> (usize, usize) {
 }
 
 /// The fault of a text, and its line and column.
-fn refusal_of(text: &[u8], fault: Fault) -> TextFault {
+fn refusal_of(text: &[u8], fault: Fault) -> TextFault
+    ensures { result ≡ Refused (refusal_of text.now fault) }
+{
     let before = &text[..text.len().saturating_sub(fault.left)];
     let (line, column) = position_after(before);
     TextFault::Refused(Refusal {
@@ -176,7 +204,10 @@ fn put_read(
     types: &[TextType],
     rows: &[Row],
     text: &[u8],
-) -> Result<Vec<Resource<Text>>, ReadError> {
+) -> Result<Vec<Resource<Text>>, ReadError>
+    ensures puts { IfOk result (λ changed. PutsText types.now rows.now text.now changed.items) }
+    ensures none { IfErr result (TextPutsNone types.now rows.now text.now) }
+{
     let lines = lines_at(alloc, text)?;
     put_lines(alloc, types, rows, &lines)
 }
@@ -187,7 +218,10 @@ pub fn put_texts(
     types: &[TextType],
     rows: &[Row],
     lines: &str,
-) -> Result<Vec<Resource<Text>>, TextFault> {
+) -> Result<Vec<Resource<Text>>, TextFault>
+    ensures puts { IfOk result (λ changed. (text : List ℕ) × (lines.now ≡ roman_text text) × PutsText types.now rows.now text changed.items) }
+    ensures refused { IfErr result (Refuses types.now rows.now lines.now) }
+{
     let Ok(roman) = roman_of(alloc, lines) else {
         return Err(TextFault::HostFull);
     };
@@ -212,7 +246,9 @@ pub fn put_texts(
 pub fn rows_of<'a>(
     alloc: Global,
     rows: &'a [Resource<Text>],
-) -> Result<Vec<Row<'a>>, AllocError> {
+) -> Result<Vec<Row<'a>>, AllocError>
+    ensures { IfOk result (λ made. made.items ≡ rows.entry.now) }
+{
     let mut made = Vec::new(alloc);
     for row in rows {
         made.push(row_of(row)?)?;
@@ -223,7 +259,7 @@ pub fn rows_of<'a>(
 #[cfg(test)]
 mod tests {
     use super::*;
-    use crate::declared::text_types;
+    use crate::kinds::text_types;
     use fork_bytes::table::Contents;
     use mac_base::resource::{ResAttrs, ResType};
     use bitflags::Flags;

@@ -1,5 +1,10 @@
 //! The types of resources that have texts, as Inside Macintosh and Rez's types declare them.
 
+ghost use Rattle.std.specs.Prelude.{◌≡◌, ◌∷◌, ◌++◌, [], IfOk, OnOk, length, map};
+ghost use Rattle.std.specs.List.{push};
+ghost use Rattle.fork_texts.specs.Kinds.{Bits, End, Onward, Pad, Several, UpTo, control_words, field_words, item_list_words, known, menu_words, pascal, position, seen, string_list_words, tail_words, version_words, window_front, words_of, Rest};
+ghost use Rattle.res_types.specs.declared.field.CountSize.TheVariants.{Integer};
+
 use mac_base::resource::ResType;
 use res_types::declaration::{Declaration, Tail};
 use res_types::field::{
@@ -36,7 +41,9 @@ pub struct TextType {
 const PASCAL: Field = Field::Text(TextForm::Counted(CountSize::Byte), TextStyle::Letters);
 
 /// A number in so many bits.
-fn number(alloc: Global, width: u8) -> Field {
+fn number(alloc: Global, width: u8) -> Field
+    ensures { field_words result ≡ Bits width ∷ [] }
+{
     Field::Number(NumberField {
         width,
         only: None,
@@ -46,7 +53,9 @@ fn number(alloc: Global, width: u8) -> Field {
 }
 
 /// One field, and then others.
-fn then(alloc: Global, first: Field, others: Field) -> Result<Field, AllocError> {
+fn then(alloc: Global, first: Field, others: Field) -> Result<Field, AllocError>
+    ensures { IfOk result (λ field. field_words field ≡ field_words first.entry ++ field_words others.entry) }
+{
     Ok(Field::Then(
         Box::new(alloc, first)?,
         Box::new(alloc, others)?,
@@ -54,7 +63,9 @@ fn then(alloc: Global, first: Field, others: Field) -> Result<Field, AllocError>
 }
 
 /// Numbers in so many bits each, and then other fields.
-fn numbers_then(alloc: Global, widths: &[u8], others: Field) -> Result<Field, AllocError> {
+fn numbers_then(alloc: Global, widths: &[u8], others: Field) -> Result<Field, AllocError>
+    ensures { IfOk result (λ field. field_words field ≡ map (λ width. Bits width) widths.now ++ field_words others.entry) }
+{
     let mut fields = others;
     for at in 0..widths.len() {
         let width = widths[widths.len() - 1 - at];
@@ -64,7 +75,9 @@ fn numbers_then(alloc: Global, widths: &[u8], others: Field) -> Result<Field, Al
 }
 
 /// A count of 16 bits, and so many elements.
-fn counted(alloc: Global, less_one: bool, element: Field) -> Result<Field, AllocError> {
+fn counted(alloc: Global, less_one: bool, element: Field) -> Result<Field, AllocError>
+    ensures { IfOk result (λ field. field_words field ≡ Several (record { size = Integer; less_one = less_one }) ∷ (field_words element.entry ++ End ∷ [])) }
+{
     let count = Count {
         size: CountSize::Integer,
         less_one,
@@ -77,13 +90,17 @@ fn counted(alloc: Global, less_one: bool, element: Field) -> Result<Field, Alloc
 }
 
 /// Elements up to a byte that is 0.
-fn ended(alloc: Global, element: Field) -> Result<Field, AllocError> {
+fn ended(alloc: Global, element: Field) -> Result<Field, AllocError>
+    ensures { IfOk result (λ field. field_words field ≡ UpTo (record { width = 8; value = 0 }) ∷ (field_words element.entry ++ End ∷ [])) }
+{
     let mark = Mark { width: 8, value: 0 };
     Ok(Field::Marked(mark, Box::new(alloc, element)?))
 }
 
 /// A type whose fields are all.
-fn whole(fields: Field) -> Declaration {
+fn whole(fields: Field) -> Declaration
+    ensures { words_of result ≡ field_words fields.entry }
+{
     Declaration {
         fields,
         tail: Tail::Nothing,
@@ -91,7 +108,9 @@ fn whole(fields: Field) -> Declaration {
 }
 
 /// A type of a dialog or a window: after its fields is where it is put on the screen, if System 7 is to do that.
-fn positioned(alloc: Global, fields: Field) -> Result<Declaration, AllocError> {
+fn positioned(alloc: Global, fields: Field) -> Result<Declaration, AllocError>
+    ensures { IfOk result (λ declaration. words_of declaration ≡ field_words fields.entry ++ position) }
+{
     let position = then(alloc, Field::Zeros(Zeros::AlignWord), number(alloc, 16))?;
     Ok(Declaration {
         fields,
@@ -100,7 +119,9 @@ fn positioned(alloc: Global, fields: Field) -> Result<Declaration, AllocError> {
 }
 
 /// 'TEXT': all bytes.
-fn text() -> Declaration {
+fn text() -> Declaration
+    ensures { words_of result ≡ Rest ∷ [] }
+{
     Declaration {
         fields: Field::Nothing,
         tail: Tail::Text(TextStyle::Letters),
@@ -108,13 +129,17 @@ fn text() -> Declaration {
 }
 
 /// 'STR#': a count, and the strings.
-fn string_list(alloc: Global) -> Result<Declaration, AllocError> {
+fn string_list(alloc: Global) -> Result<Declaration, AllocError>
+    ensures { IfOk result (λ declaration. words_of declaration ≡ string_list_words) }
+{
     Ok(whole(counted(alloc, false, PASCAL)?))
 }
 
 /// 'MENU': id, width, height, the id of its procedure, a filler, which items are enabled, and the title. Then the
 /// items: each has a text, an icon, a key, a mark and a style.
-fn menu(alloc: Global) -> Result<Declaration, AllocError> {
+fn menu(alloc: Global) -> Result<Declaration, AllocError>
+    ensures { IfOk result (λ declaration. words_of declaration ≡ menu_words) }
+{
     let item = then(
         alloc,
         PASCAL,
@@ -130,7 +155,9 @@ fn menu(alloc: Global) -> Result<Declaration, AllocError> {
 
 /// 'DITL': one less than the count, and the items. Each has a place for a handle, a rectangle, its type, and its text
 /// or other data, up to a whole word.
-fn item_list(alloc: Global) -> Result<Declaration, AllocError> {
+fn item_list(alloc: Global) -> Result<Declaration, AllocError>
+    ensures { IfOk result (λ declaration. words_of declaration ≡ item_list_words) }
+{
     let data = then(alloc, PASCAL, Field::Zeros(Zeros::AlignWord))?;
     let item = numbers_then(alloc, &[32, 16, 16, 16, 16, 8], data)?;
     Ok(whole(counted(alloc, true, item)?))
@@ -138,20 +165,26 @@ fn item_list(alloc: Global) -> Result<Declaration, AllocError> {
 
 /// 'WIND': a rectangle, the id of its procedure, whether it is visible, whether it has a box to close it (each with a
 /// filler), a number for the program, and the title.
-fn window(alloc: Global) -> Result<Declaration, AllocError> {
+fn window(alloc: Global) -> Result<Declaration, AllocError>
+    ensures { IfOk result (λ declaration. words_of declaration ≡ window_front (pascal ∷ position)) }
+{
     let fields = numbers_then(alloc, &[16, 16, 16, 16, 16, 8, 8, 8, 8, 32], PASCAL)?;
     positioned(alloc, fields)
 }
 
 /// 'DLOG': the same, but before the title is the id of its items.
-fn dialog(alloc: Global) -> Result<Declaration, AllocError> {
+fn dialog(alloc: Global) -> Result<Declaration, AllocError>
+    ensures { IfOk result (λ declaration. words_of declaration ≡ window_front (Bits 16 ∷ pascal ∷ position)) }
+{
     let fields = numbers_then(alloc, &[16, 16, 16, 16, 16, 8, 8, 8, 8, 32, 16], PASCAL)?;
     positioned(alloc, fields)
 }
 
 /// 'CNTL': a rectangle, its value, whether it is visible (with a filler), the greatest and the least value, the id of
 /// its procedure, a number for the program, and the title.
-fn control(alloc: Global) -> Result<Declaration, AllocError> {
+fn control(alloc: Global) -> Result<Declaration, AllocError>
+    ensures { IfOk result (λ declaration. words_of declaration ≡ control_words) }
+{
     Ok(whole(numbers_then(
         alloc,
         &[16, 16, 16, 16, 16, 8, 8, 16, 16, 16, 32],
@@ -160,7 +193,9 @@ fn control(alloc: Global) -> Result<Declaration, AllocError> {
 }
 
 /// 'vers': the version's number in two bytes, its stage, which one it is of this stage, the country, and its texts.
-fn version(alloc: Global) -> Result<Declaration, AllocError> {
+fn version(alloc: Global) -> Result<Declaration, AllocError>
+    ensures { IfOk result (λ declaration. words_of declaration ≡ version_words) }
+{
     let texts = then(alloc, PASCAL, PASCAL)?;
     Ok(whole(numbers_then(alloc, &[8, 8, 8, 8, 16], texts)?))
 }
@@ -171,7 +206,9 @@ fn push_type(
     kind: [u8; 4],
     naming: Naming,
     declaration: Declaration,
-) -> Result<(), AllocError> {
+) -> Result<(), AllocError>
+    ensures { OnOk result (map seen types.new.items ≡ push (map seen types.old.items) (kind, naming, words_of declaration.entry)) }
+{
     types.push(TextType {
         kind: ResType::new(kind),
         naming,
@@ -182,7 +219,9 @@ fn push_type(
 
 /// The types of resources that have texts: strings, lists of strings, texts, menus, the items, windows and controls of
 /// dialogs, and versions. The only error is that the host has no memory.
-pub fn text_types(alloc: Global) -> Result<Vec<TextType>, AllocError> {
+pub fn text_types(alloc: Global) -> Result<Vec<TextType>, AllocError>
+    ensures { IfOk result (λ types. map seen types.items ≡ known) }
+{
     let mut types = Vec::new(alloc);
     push_type(&mut types, *b"STR ", Naming::Whole, whole(PASCAL))?;
     push_type(&mut types, *b"STR#", Naming::Numbered, string_list(alloc)?)?;
