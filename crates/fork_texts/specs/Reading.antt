@@ -1,7 +1,6 @@
 -- How lines are read as texts and their places, from left to right, and the first place where they are none.
 use Rattle.std.specs.Prelude.{◌≡◌, ℕ, ℤ, pos, zero, suc, ◌+◌, ◌-◌, ◌*◌, ◌==◌, ◌&&◌, ◌||◌, not, Bool, true, false, nat_le, nat_lt, if◌then◌else◌, List, [], ◌∷◌, ◌++◌, length, take, drop, codes, bytes_eq, Option, None, Some, Result, Ok, Err, neg_ℤ}
 use Rattle.std.specs.Char.{digit_value}
-use Rattle.fork_change.specs.declared.row.ResourceId.{ResourceId}
 use Rattle.fork_texts.specs.declared.entry.Entry.{Entry}
 use Rattle.fork_texts.specs.declared.fault.Fault.{Fault}
 use Rattle.fork_texts.specs.declared.fault.ReadError.{ReadError}
@@ -11,6 +10,7 @@ use Rattle.fork_texts.specs.declared.fault.Why.TheVariants as why
 use Rattle.fork_texts.specs.declared.line.Line.{Line}
 use Rattle.fork_texts.specs.declared.place.Place.{Place}
 use Rattle.fork_texts.specs.declared.place.Place.TheVariants.{Name, Whole, Title, Short, Long, Numbered}
+use Rattle.fork_texts.specs.declared.reading.Head.{Head}
 use Rattle.fork_texts.specs.declared.reading.Stop.{Stop}
 use Rattle.fork_texts.specs.declared.reading.Stop.TheVariants.{Blank, Quote}
 use Rattle.fork_texts.specs.declared.reading.TheConstants.{MOST}
@@ -173,20 +173,25 @@ unfoldable pub line_end_at : List ℕ → Result (List ℕ) Fault
 line_end_at text = elim (after_blanks text) [ [] ↦ Ok [] | byte ∷ rest ↦ if byte == 10 then Ok rest else fails (byte ∷ rest) why.LineEnd ]
 
 -- a type, an id and a place, with blanks after each
-unfoldable pub head_at : List ℕ → Result (ResourceId × Place × List ℕ) Fault
+unfoldable pub head_at : List ℕ → Result (Head × List ℕ) Fault
 head_at text = do
   kind ← kind_at text
   id ← id_at (after_blanks kind.1)
   place ← place_at (after_blanks id.1)
-  Ok (record { kind = kind.0; id = id.0 }, place.0, after_blanks place.1)
+  Ok (record { kind = kind.0; id = id.0; place = place.0 }, after_blanks place.1)
+
+-- the line of a head and a text, where so many bytes are left before each
+abbrev pub line_of : Head → List ℕ → ℕ → ℕ → Line
+line_of head text start quote =
+    record { entry = record { what = record { kind = head.kind; id = head.id }; place = head.place; text = text }; start = start; quote = quote }
 
 -- a line
 unfoldable pub line_at : List ℕ → Result (Line × List ℕ) Fault
 line_at text = do
   head ← head_at text
-  bytes ← quoted_at head.2
+  bytes ← quoted_at head.1
   rest ← line_end_at bytes.1
-  Ok (record { entry = record { what = head.0; place = head.1; text = bytes.0 }; start = length text; quote = length head.2 }, rest)
+  Ok (line_of head.0 bytes.0 (length text) (length head.1), rest)
 
 -- lines after those so far, in so many turns at most
 unfoldable pub lines_from : ℕ → List Line → List ℕ → Result (List Line) Fault

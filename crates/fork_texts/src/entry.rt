@@ -10,7 +10,7 @@ use res_types::value::Text;
 use std::alloc::{AllocError, Global};
 
 /// A text, and where it is.
-#[derive(Debug, Drop)]
+#[derive(Drop)]
 pub struct Entry {
     pub what: ResourceId,
     pub place: Place,

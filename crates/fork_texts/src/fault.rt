@@ -8,7 +8,7 @@ use std::fmt;
 use thiserror::Error;
 
 /// What is wrong in a place.
-#[derive(Clone, Copy, Debug, PartialEq, Eq)]
+#[derive(Clone, Copy, Debug)]
 pub enum Why {
     /// A character that MacRoman lacks.
     Letter,
@@ -62,14 +62,14 @@ impl fmt::Display for Why {
 }
 
 /// How many bytes of a text are left where something is wrong, and what.
-#[derive(Clone, Copy, Debug, PartialEq, Eq)]
+#[derive(Clone, Copy)]
 pub(crate) struct Fault {
     pub left: usize,
     pub why: Why,
 }
 
 /// Why a part of a text isn't read.
-#[derive(Clone, Copy, Debug)]
+#[derive(Clone, Copy)]
 pub(crate) enum ReadError {
     HostFull,
     Refused(Fault),
@@ -102,7 +102,7 @@ pub(crate) fn refused(text: &[u8], why: Why) -> ReadError
 }
 
 /// Where lines of texts are wrong, and what is.
-#[derive(Clone, Copy, Debug, PartialEq, Eq)]
+#[derive(Clone, Copy, Debug)]
 pub struct Refusal {
     /// The line, from 1 on.
     pub line: usize,

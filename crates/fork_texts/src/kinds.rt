@@ -13,7 +13,7 @@ use res_types::field::{
 use std::alloc::{AllocError, Global};
 
 /// How the texts of a resource are called, in their order.
-#[derive(Clone, Copy, Debug, PartialEq, Eq)]
+#[derive(Clone, Copy)]
 pub enum Naming {
     /// The only one is the resource's text.
     Whole,
@@ -30,7 +30,7 @@ pub enum Naming {
 }
 
 /// A type of resources that have texts.
-#[derive(Debug, Drop)]
+#[derive(Drop)]
 pub struct TextType {
     pub kind: ResType,
     pub naming: Naming,
@@ -54,7 +54,7 @@ fn number(alloc: Global, width: u8) -> Field
 
 /// One field, and then others.
 fn then(alloc: Global, first: Field, others: Field) -> Result<Field, AllocError>
-    ensures { IfOk result (λ field. field_words field ≡ field_words first.entry ++ field_words others.entry) }
+    ensures { IfOk result (λ field. field_words field ≡ field_words first ++ field_words others) }
 {
     Ok(Field::Then(
         Box::new(alloc, first)?,
@@ -64,19 +64,20 @@ fn then(alloc: Global, first: Field, others: Field) -> Result<Field, AllocError>
 
 /// Numbers in so many bits each, and then other fields.
 fn numbers_then(alloc: Global, widths: &[u8], others: Field) -> Result<Field, AllocError>
-    ensures { IfOk result (λ field. field_words field ≡ map (λ width. Bits width) widths.now ++ field_words others.entry) }
+    ensures { IfOk result (λ field. field_words field ≡ map (λ width. Bits width) widths.now ++ field_words others) }
 {
-    let mut fields = others;
-    for at in 0..widths.len() {
-        let width = widths[widths.len() - 1 - at];
-        fields = then(alloc, number(alloc, width), fields)?;
+    match widths.split_first() {
+        Some((first, widths)) => {
+            let fields = numbers_then(alloc, widths, others)?;
+            then(alloc, number(alloc, *first), fields)
+        }
+        None => Ok(others),
     }
-    Ok(fields)
 }
 
 /// A count of 16 bits, and so many elements.
 fn counted(alloc: Global, less_one: bool, element: Field) -> Result<Field, AllocError>
-    ensures { IfOk result (λ field. field_words field ≡ Several (record { size = Integer; less_one = less_one }) ∷ (field_words element.entry ++ End ∷ [])) }
+    ensures { IfOk result (λ field. field_words field ≡ Several (record { size = Integer; less_one = less_one }) ∷ (field_words element ++ End ∷ [])) }
 {
     let count = Count {
         size: CountSize::Integer,
@@ -91,7 +92,7 @@ fn counted(alloc: Global, less_one: bool, element: Field) -> Result<Field, Alloc
 
 /// Elements up to a byte that is 0.
 fn ended(alloc: Global, element: Field) -> Result<Field, AllocError>
-    ensures { IfOk result (λ field. field_words field ≡ UpTo (record { width = 8; value = 0 }) ∷ (field_words element.entry ++ End ∷ [])) }
+    ensures { IfOk result (λ field. field_words field ≡ UpTo (record { width = 8; value = 0 }) ∷ (field_words element ++ End ∷ [])) }
 {
     let mark = Mark { width: 8, value: 0 };
     Ok(Field::Marked(mark, Box::new(alloc, element)?))
@@ -99,7 +100,7 @@ fn ended(alloc: Global, element: Field) -> Result<Field, AllocError>
 
 /// A type whose fields are all.
 fn whole(fields: Field) -> Declaration
-    ensures { words_of result ≡ field_words fields.entry }
+    ensures { words_of result ≡ field_words fields }
 {
     Declaration {
         fields,
@@ -109,7 +110,7 @@ fn whole(fields: Field) -> Declaration
 
 /// A type of a dialog or a window: after its fields is where it is put on the screen, if System 7 is to do that.
 fn positioned(alloc: Global, fields: Field) -> Result<Declaration, AllocError>
-    ensures { IfOk result (λ declaration. words_of declaration ≡ field_words fields.entry ++ position) }
+    ensures { IfOk result (λ declaration. words_of declaration ≡ field_words fields ++ position) }
 {
     let position = then(alloc, Field::Zeros(Zeros::AlignWord), number(alloc, 16))?;
     Ok(Declaration {
@@ -207,7 +208,7 @@ fn push_type(
     naming: Naming,
     declaration: Declaration,
 ) -> Result<(), AllocError>
-    ensures { OnOk result (map seen types.new.items ≡ push (map seen types.old.items) (kind, naming, words_of declaration.entry)) }
+    ensures { OnOk result (map seen types.new.items ≡ push (map seen types.old.items) (kind, naming, words_of declaration)) }
 {
     types.push(TextType {
         kind: ResType::new(kind),

@@ -14,7 +14,7 @@ use std::alloc::{AllocError, Global};
 const COLUMN: usize = 17;
 
 /// A line, and where it is in its text.
-#[derive(Debug, Drop)]
+#[derive(Drop)]
 pub(crate) struct Line {
     pub entry: Entry,
     /// How many bytes are left where it begins.

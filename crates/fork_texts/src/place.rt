@@ -7,7 +7,7 @@ use crate::kinds::Naming;
 use res_types::value::Part;
 
 /// Where a text is in its resource.
-#[derive(Clone, Copy, Debug, PartialEq, Eq)]
+#[derive(Clone, Copy)]
 pub enum Place {
     /// It is the resource's name.
     Name,

@@ -135,21 +135,21 @@ fn bytes_at(alloc: Global, stop: Stop, text: &[u8]) -> Result<(Vec<u8>, &[u8]), 
 }
 
 /// The type of these bytes: blanks at its end make them four.
-fn kind_of(bytes: &[u8]) -> Option<ResType>
+fn kind_of(bytes: &[u8]) -> Option<[u8; 4]>
     ensures { result ≡ kind_of bytes.now }
 {
     match bytes {
-        [a] => Some(ResType::new([*a, b' ', b' ', b' '])),
-        [a, b] => Some(ResType::new([*a, *b, b' ', b' '])),
-        [a, b, c] => Some(ResType::new([*a, *b, *c, b' '])),
-        [a, b, c, d] => Some(ResType::new([*a, *b, *c, *d])),
+        [a] => Some([*a, b' ', b' ', b' ']),
+        [a, b] => Some([*a, *b, b' ', b' ']),
+        [a, b, c] => Some([*a, *b, *c, b' ']),
+        [a, b, c, d] => Some([*a, *b, *c, *d]),
         _ => None,
     }
 }
 
 /// A type.
 #[tactic(auto, unfolding(crate::specs::Reading::kind_at))]
-fn kind_at(alloc: Global, text: &[u8]) -> Result<(ResType, &[u8]), ReadError>
+fn kind_at(alloc: Global, text: &[u8]) -> Result<([u8; 4], &[u8]), ReadError>
     ensures { Gives (λ x. (x.0, x.1.now)) result (kind_at text.now) }
 {
     let (bytes, rest) = bytes_at(alloc, Stop::Blank, text)?;
@@ -284,15 +284,23 @@ fn line_end_at(text: &[u8]) -> Result<&[u8], ReadError>
     }
 }
 
+/// What a line has before its text.
+#[derive(Clone, Copy)]
+struct Head {
+    kind: [u8; 4],
+    id: i16,
+    place: Place,
+}
+
 /// A type, an id and a place, and the text after them and after blanks.
 #[tactic(auto, unfolding(crate::specs::Reading::head_at))]
-fn head_at(alloc: Global, text: &[u8]) -> Result<(ResourceId, Place, &[u8]), ReadError>
-    ensures { Gives (λ x. (x.0, x.1, x.2.now)) result (head_at text.now) }
+fn head_at(alloc: Global, text: &[u8]) -> Result<(Head, &[u8]), ReadError>
+    ensures { Gives (λ x. (x.0, x.1.now)) result (head_at text.now) }
 {
     let (kind, rest) = kind_at(alloc, text)?;
     let (id, rest) = id_at(after_blanks(rest))?;
     let (place, rest) = place_at(after_blanks(rest))?;
-    Ok((ResourceId { kind, id }, place, after_blanks(rest)))
+    Ok((Head { kind, id, place }, after_blanks(rest)))
 }
 
 /// A line, which doesn't begin with a blank.
@@ -300,13 +308,16 @@ fn head_at(alloc: Global, text: &[u8]) -> Result<(ResourceId, Place, &[u8]), Rea
 fn line_at(alloc: Global, text: &[u8]) -> Result<(Line, &[u8]), ReadError>
     ensures { Gives (λ x. (x.0, x.1.now)) result (line_at text.now) }
 {
-    let (what, place, inner) = head_at(alloc, text)?;
+    let (head, inner) = head_at(alloc, text)?;
     let (bytes, rest) = quoted_at(alloc, inner)?;
     let rest = line_end_at(rest)?;
     let line = Line {
         entry: Entry {
-            what,
-            place,
+            what: ResourceId {
+                kind: ResType::new(head.kind),
+                id: head.id,
+            },
+            place: head.place,
             text: Text::new(bytes),
         },
         start: text.len(),
@@ -327,7 +338,10 @@ pub(crate) fn lines_at(alloc: Global, text: &[u8]) -> Result<Vec<Line>, ReadErro
         if rest.is_empty() {
             return Ok(lines);
         }
-        let (line, after) = line_at(alloc, rest)?;
+        let (line, after) = match line_at(alloc, rest) {
+            Ok(read) => read,
+            Err(error) => return Err(error),
+        };
         lines.push(line)?;
         rest = after_lines(after);
     }

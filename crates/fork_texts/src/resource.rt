@@ -24,20 +24,24 @@ pub(crate) fn type_of(types: &[TextType], kind: ResType) -> Option<&TextType>
 fn push_shown(
     alloc: Global,
     entries: &mut Vec<Entry>,
-    what: ResourceId,
+    what: &ResourceId,
     before: &Before,
     part: &Part,
 ) -> Result<(), AllocError>
     requires { before.now.texts < 2 ^ 63 }
-    ensures { OnOk result (entries.new.items ≡ entries.old.items ++ shown_part what (place_at before.now part.now) part.now) }
+    ensures { OnOk result (entries.new.items ≡ entries.old.items ++ shown_part what.now (place_at before.now part.now) part.now) }
 {
-    if let (Some(place), Part::Text(text)) = (before.place(part), part) {
-        entries.push(Entry {
-            what,
-            place,
-            text: text_from(alloc, text.as_slice())?,
-        })?;
-    }
+    let Some(place) = before.place(part) else {
+        return Ok(());
+    };
+    let Part::Text(text) = part else {
+        return Ok(());
+    };
+    entries.push(Entry {
+        what: *what,
+        place,
+        text: text_from(alloc, text.as_slice())?,
+    })?;
     Ok(())
 }
 
@@ -45,11 +49,11 @@ fn push_shown(
 pub(crate) fn push_texts(
     alloc: Global,
     entries: &mut Vec<Entry>,
-    what: ResourceId,
+    what: &ResourceId,
     one: &TextType,
     parts: &[Part],
 ) -> Result<(), AllocError>
-    ensures { OnOk result (entries.new.items ≡ entries.old.items ++ shown what (start one.now.naming) parts.now) }
+    ensures { OnOk result (entries.new.items ≡ entries.old.items ++ shown what.now (start one.now.naming) parts.now) }
 {
     let mut before = Before::start(one.naming);
     for part in parts {

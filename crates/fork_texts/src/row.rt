@@ -57,7 +57,7 @@ fn push_typed(
 {
     match one.declaration.decode(alloc, row.datum.as_slice()) {
         Ok(parts) => {
-            push_texts(alloc, entries, id_of(row), one, &parts)?;
+            push_texts(alloc, entries, &id_of(row), one, &parts)?;
             Ok(true)
         }
         Err(Stop::Unfit(_)) => Ok(false),
@@ -125,28 +125,36 @@ fn short_name(alloc: Global, bytes: &[u8]) -> Result<Option<Name>, AllocError>
     Name::new(alloc, bytes)
 }
 
-/// The name that a row gets, which is the first of these texts where it has one, and the texts after that. None where
-/// the name is too long.
-fn name_put<'a>(
+/// The name that a row gets, which is the first of these texts where it has one. None where the name is too long.
+fn name_put(
     alloc: Global,
     row: &Row,
-    texts: &'a [Entry],
-) -> Result<Option<(Option<Name>, &'a [Entry])>, AllocError>
-    ensures name { IfOk result (λ found. IfSome found (λ x. x.0 ≡ put_name row.now.name texts.entry.now)) }
-    ensures texts { IfOk result (λ found. IfSome found (λ x. x.1.now ≡ after_name row.now.name texts.entry.now)) }
-    ensures short { IfOk result (λ found. IfSome found (λ x. IfSome x.0 (λ name. length name ≤ 255))) }
-    ensures long { IfOk result (λ found. IfNone found (¬ IfSome (put_name row.now.name texts.entry.now) (λ name. length name ≤ 255))) }
+    texts: &[Entry],
+) -> Result<Option<Option<Name>>, AllocError>
+    ensures name { IfOk result (λ found. IfSome found (λ name. name ≡ put_name row.now.name texts.now)) }
+    ensures short { IfOk result (λ found. IfSome found (λ name. IfSome name (λ bytes. length bytes ≤ 255))) }
+    ensures long { IfOk result (λ found. IfNone found (¬ IfSome (put_name row.now.name texts.now) (λ bytes. length bytes ≤ 255))) }
 {
     let Some(old) = &row.name else {
-        return Ok(Some((None, texts)));
+        return Ok(Some(None));
     };
     let bytes = match texts.first() {
         Some(first) => first.text.as_slice(),
         None => old.as_slice(),
     };
     match short_name(alloc, bytes)? {
-        Some(name) => Ok(Some((Some(name), &texts[texts.len().min(1)..]))),
+        Some(name) => Ok(Some(Some(name))),
         None => Ok(None),
+    }
+}
+
+/// The texts after the name, where a row has one.
+fn after_name<'a>(row: &Row, texts: &'a [Entry]) -> &'a [Entry]
+    ensures { result.now ≡ after_name row.now.name texts.entry.now }
+{
+    match (&row.name, texts.split_first()) {
+        (Some(_), Some((_, others))) => others,
+        _ => texts,
     }
 }
 
@@ -213,10 +221,10 @@ pub(crate) fn row_with(
     ensures put { IfOk result (λ found. IfSome found (IsRowPut types.now row.now texts.now)) }
     ensures none { IfOk result (λ found. IfNone found ((new : Row) → ¬ IsRowPut types.now row.now texts.now new)) }
 {
-    let Some((name, others)) = name_put(alloc, row, texts)? else {
+    let Some(name) = name_put(alloc, row, texts)? else {
         return Ok(None);
     };
-    let Some(datum) = bytes_put(alloc, types, row, others)? else {
+    let Some(datum) = bytes_put(alloc, types, row, after_name(row, texts))? else {
         return Ok(None);
     };
     let new = Resource {

@@ -1,9 +1,9 @@
 //! The texts of a table as lines, and a table with the texts of lines.
 
-ghost use Rattle.std.specs.Prelude.{◌≡◌, ◌++◌, ℕ, List, IfErr, IfOk, OnOk, string_bytes};
+ghost use Rattle.std.specs.Prelude.{◌≡◌, ◌++◌, [], ℕ, List, IfErr, IfOk, OnOk, string_bytes};
 ghost use Rattle.fork_bytes.specs.Rows.{Row};
 ghost use Rattle.fork_list.specs.Roman.{roman_text};
-ghost use Rattle.fork_texts.specs.Putting.{Becomes, BecomesNone, Puts, merged};
+ghost use Rattle.fork_texts.specs.Putting.{Becomes, BecomesNone, Puts, merged, with_new};
 ghost use Rattle.fork_texts.specs.Tables.{PutsNone, PutsText, Refuses, TextPutsNone, has_text, lines_of, odd_of, position, refusal_of, row_lines, why_left};
 ghost use Rattle.fork_texts.specs.Texts.{entries_of, is_typed};
 ghost use Rattle.fork_texts.specs.declared.fault.TextFault.TheVariants.{Refused};
@@ -140,6 +140,19 @@ fn why_left(
     Ok(Why::NotThere)
 }
 
+/// Adds a row, if there is one.
+fn push_new(
+    changed: &mut Vec<Resource<Text>>,
+    new: Option<Resource<Text>>,
+) -> Result<(), AllocError>
+    ensures { OnOk result (changed.new.items ≡ changed.old.items ++ with_new new []) }
+{
+    if let Some(new) = new {
+        changed.push(new)?;
+    }
+    Ok(())
+}
+
 /// The rows that change where their texts become those of lines.
 fn put_lines(
     alloc: Global,
@@ -153,11 +166,12 @@ fn put_lines(
     let mut changed = Vec::new(alloc);
     let mut left = lines;
     for row in rows {
-        let (new, others) = put_row(alloc, types, row, left)?;
-        if let Some(new) = new {
-            changed.push(new)?;
-        }
+        let (new, others) = match put_row(alloc, types, row, left) {
+            Ok(put) => put,
+            Err(error) => return Err(error),
+        };
         left = others;
+        push_new(&mut changed, new)?;
     }
     match left.first() {
         None => Ok(changed),
