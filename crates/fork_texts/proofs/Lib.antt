@@ -1,1 +1,5 @@
 pub mod Same
+pub mod Unchanged
+pub mod Numbers
+pub mod Letters
+pub mod Again

@@ -6,3 +6,4 @@ pub mod Lines
 pub mod Reading
 pub mod Tables
 pub mod Romans
+pub mod Laws

@@ -5,6 +5,7 @@
 mod kinds;
 mod entry;
 pub mod fault;
+mod laws;
 mod line;
 mod merge;
 mod place;
@@ -16,5 +17,6 @@ mod table;
 
 pub use kinds::{Naming, TextType, text_types};
 pub use entry::Entry;
+pub use laws::line_laws;
 pub use place::Place;
 pub use table::{Listed, put_texts, rows_of, texts_of};
