@@ -18,12 +18,12 @@ use Rattle.fork_texts.specs.Texts.{entries_of, filled, name_entries, texts_in, t
 abbrev in_bits : ResourceId → TextType → List Bool → List Entry
 in_bits what one bits = texts_in what one (decode one.declaration bits)
 
-same_ok : (a b : List Bool) → Ok {E = ℕ} a ≡ Ok b → a ≡ b
-same_ok a b is = cc
+same_ok : (r : Result (List Bool) ℕ) (a b : List Bool) → r ≡ Ok a → r ≡ Ok b → a ≡ b
+same_ok r a b one other = cc
 
 same_parts : (what : ResourceId) (one : TextType) (texts : List Entry) (old a b : List ℕ) (found : Result (List Part) ℕ)
     → PutsParts one texts old a found → PutsParts one texts old b found → in_bits what one (byte_bits a) ≡ in_bits what one (byte_bits b)
-same_parts what one texts old a b (Ok found) x y = ap (in_bits what one) (same_ok (byte_bits a) (byte_bits b) (sym x ∙ y))
+same_parts what one texts old a b (Ok found) x y = ap (in_bits what one) (same_ok (encode one.declaration (filled (start one.naming) found texts)) (byte_bits a) (byte_bits b) x y)
 same_parts what one texts old a b (Err left) x y = ap (λ (bytes : List ℕ). in_bits what one (byte_bits bytes)) (x ∙ sym y)
 
 -- rows of the same type, id and name have the same texts where their bytes are put so

@@ -1,11 +1,13 @@
 //! The words of the command that lists texts, or puts them.
 
-ghost use Rattle.std.specs.Prelude.{◌≡◌, codes, IfErr, IfOk, None, Some};
+ghost use Rattle.std.specs.Prelude.{◌≡◌, ℕ, List, codes, IfErr, IfOk, None, Some};
 ghost use Rattle.clap.specs.Matches.{first_value, found_of};
+ghost use Rattle.clap.specs.declared.parser.matches.Found.{Found};
 ghost use Rattle.fork_words.specs.Changes.{AsksFor};
 ghost use Rattle.fork_words.specs.Given.{word_of};
 ghost use Rattle.fork_words.specs.Inputs.{ReadsOnce};
-ghost use Rattle.fork_words.specs.Texts.{IsNoTexts};
+ghost use Rattle.fork_words.specs.Places.{IsTarget};
+ghost use Rattle.fork_words.specs.Texts.{IsNoTexts, says_how};
 
 use crate::INPUT;
 use crate::asked::word;
@@ -21,6 +23,14 @@ pub struct PuttingTexts<'a> {
     pub target: Target<'a>,
 }
 
+/// Whether something is said of how a file is changed.
+#[tactic(auto, using(crate::proofs::Places::named_same))]
+fn says_how(target: &Target<'_>) -> bool
+    ensures { (found : Found) (path : List ℕ) → IsTarget found path target.now → result ≡ says_how found }
+{
+    target.output.is_some() || target.keeps_old || target.is_dry || target.is_quiet
+}
+
 /// What `texts` asks for without `--put`: to list texts. What goes with that alone is refused.
 fn listing<'a>(matches: &ArgMatches<'a>, file: &'a str) -> Result<Work<'a>, Fault>
     requires file { file.entry.now ≡ word_of (found_of matches.now) (codes "file") }
@@ -29,11 +39,11 @@ fn listing<'a>(matches: &ArgMatches<'a>, file: &'a str) -> Result<Work<'a>, Faul
     ensures once { IfOk result ReadsOnce }
     ensures refused { IfErr result (IsNoTexts (found_of matches.now)) }
 {
-    let target = target_of(matches, file);
-    if target.output.is_some() || target.keeps_old || target.is_dry || target.is_quiet {
-        return Err(Fault::NotPut);
+    if says_how(&target_of(matches, file)) {
+        Err(Fault::NotPut)
+    } else {
+        Ok(Work::Texts(file))
     }
-    Ok(Work::Texts(file))
 }
 
 /// What `texts` asks for.
