@@ -7,7 +7,7 @@ use Rattle.fork_texts.specs.declared.entry.Entry.{Entry}
 use Rattle.fork_texts.specs.declared.kinds.TextType.{TextType}
 use Rattle.fork_texts.specs.declared.line.Line.{Line}
 use Rattle.fork_texts.specs.Laws.{texts_of}
-use Rattle.fork_texts.specs.Putting.{Becomes, Merge, Puts, merged, with_entry_text, with_first, with_new}
+use Rattle.fork_texts.specs.Putting.{Becomes, Merge, Puts, merged, next_lines, with_entry_text, with_first, with_new}
 use Rattle.fork_texts.specs.Texts.{entries_of, is_at}
 use Rattle.fork_texts.proofs.Same.{at_self}
 
@@ -23,7 +23,8 @@ stays_first entry others more line lines is s =
     let text : with_entry_text entry line.entry.text ≡ entry = ap (λ (e : Entry). with_entry_text entry e.text) is in
     record {
       left = s.left;
-      stays = cond-true (is_at line.entry entry) (with_first (with_entry_text entry line.entry.text) (merged others lines)) (with_first entry (merged others (line ∷ lines))) here
+      stays = ap (λ (t : List ℕ). with_first (with_entry_text entry t) (merged others (next_lines entry (line ∷ lines)))) (cond-true (is_at line.entry entry) line.entry.text entry.text here)
+          ∙ ap (λ (ls : List Line). with_first (with_entry_text entry line.entry.text) (merged others ls)) (cond-true (is_at line.entry entry) lines (line ∷ lines) here)
           ∙ ap (λ (e : Entry). with_first e (merged others lines)) text
           ∙ ap (λ (m : Merge). with_first entry m) s.stays;
       rest = s.rest;

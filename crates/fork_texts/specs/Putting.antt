@@ -25,13 +25,20 @@ pub record Merge : Type 0 where
 abbrev pub with_first : Entry → Merge → Merge
 with_first entry merge = record { entries = entry ∷ merge.entries; left = merge.left }
 
+-- the text of the next line, if this is in an entry's place, and else the entry's own
+abbrev pub next_text : Entry → List Line → List ℕ
+next_text entry [] = entry.text
+next_text entry (line ∷ lines) = if is_at line.entry entry then line.entry.text else entry.text
+
+-- the lines after that
+abbrev pub next_lines : Entry → List Line → List Line
+next_lines entry [] = []
+next_lines entry (line ∷ lines) = if is_at line.entry entry then lines else line ∷ lines
+
 -- each text is that of the next line, if this is in its place
 abbrev pub merged : List Entry → List Line → Merge
 merged [] lines = record { entries = []; left = lines }
-merged (entry ∷ others) [] = with_first entry (merged others [])
-merged (entry ∷ others) (line ∷ lines) =
-    if is_at line.entry entry then with_first (with_entry_text entry line.entry.text) (merged others lines)
-    else with_first entry (merged others (line ∷ lines))
+merged (entry ∷ others) lines = with_first (with_entry_text entry (next_text entry lines)) (merged others (next_lines entry lines))
 
 -- what becomes of a name, which is the first of these texts, and the texts after it
 abbrev pub put_name : Option (List ℕ) → List Entry → Option (List ℕ)

@@ -35,13 +35,20 @@ abbrev pub with_text : Part → List Entry → Part
 with_text part [] = part
 with_text part (first ∷ others) = parts.Text first.text
 
+-- the same, where it has a place; and the texts after that
+abbrev pub part_put : Option Place → Part → List Entry → Part
+part_put None part texts = part
+part_put (Some place) part texts = with_text part texts
+
+abbrev pub texts_left : Option Place → List Entry → List Entry
+texts_left None texts = texts
+texts_left (Some place) texts = drop 1 texts
+
 -- the parts with these texts, one after the other, where a text has a place; all other parts stay
 abbrev pub filled : Before → List Part → List Entry → List Part
 filled before [] texts = []
-filled before (part ∷ others) texts = elim (place_at before part) [
-  | None ↦ part ∷ filled (after before part) others texts
-  | Some place ↦ with_text part texts ∷ filled (after before part) others (drop 1 texts)
-]
+filled before (part ∷ others) texts =
+    part_put (place_at before part) part texts ∷ filled (after before part) others (texts_left (place_at before part) texts)
 
 -- the name of a row as a text
 abbrev pub name_entries : Row → List Entry

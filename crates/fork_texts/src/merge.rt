@@ -1,7 +1,7 @@
 //! Texts that take the place of others.
 
 ghost use Rattle.std.specs.Prelude.{◌≡◌, IfOk};
-ghost use Rattle.fork_texts.specs.Putting.{merged};
+ghost use Rattle.fork_texts.specs.Putting.{merged, next_lines, next_text};
 
 use crate::entry::Entry;
 use crate::line::Line;
@@ -12,6 +12,26 @@ use std::alloc::{AllocError, Global};
 pub(crate) struct Merged<'a> {
     pub entries: Vec<Entry>,
     pub left: &'a [Line],
+}
+
+/// The text of the next line, if this is in an entry's place, and else the entry's own.
+fn next_text<'a>(entry: &'a Entry, lines: &'a [Line]) -> &'a [u8]
+    ensures { result.now ≡ next_text entry.entry.now lines.entry.now }
+{
+    match lines.first() {
+        Some(line) if line.entry.is_at(entry) => line.entry.text.as_slice(),
+        _ => entry.text.as_slice(),
+    }
+}
+
+/// The lines after that.
+fn next_lines<'a>(entry: &Entry, lines: &'a [Line]) -> &'a [Line]
+    ensures { result.now ≡ next_lines entry.now lines.entry.now }
+{
+    match lines.split_first() {
+        Some((line, others)) if line.entry.is_at(entry) => others,
+        _ => lines,
+    }
 }
 
 /// These texts with those of lines that are in the same places, and the lines that are left: they are in the order of
@@ -27,13 +47,8 @@ pub(crate) fn merge<'a>(
     let mut merged = Vec::new(alloc);
     let mut left = lines;
     for entry in entries {
-        match left.split_first() {
-            Some((line, others)) if line.entry.is_at(entry) => {
-                merged.push(entry.with_text(alloc, line.entry.text.as_slice())?)?;
-                left = others;
-            }
-            _ => merged.push(entry.with_text(alloc, entry.text.as_slice())?)?,
-        }
+        merged.push(entry.with_text(alloc, next_text(entry, left))?)?;
+        left = next_lines(entry, left);
     }
     Ok(Merged {
         entries: merged,

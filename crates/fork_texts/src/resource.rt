@@ -3,11 +3,11 @@
 ghost use Rattle.std.specs.Prelude.{◌≡◌, ◌++◌, ◌<◌, ◌^◌, IfOk, OnOk, length, option_copied};
 ghost use Rattle.fork_texts.specs.Kinds.{type_of};
 ghost use Rattle.fork_texts.specs.Places.{place_at, start};
-ghost use Rattle.fork_texts.specs.Texts.{filled, shown, shown_part};
+ghost use Rattle.fork_texts.specs.Texts.{filled, part_put, shown, shown_part, texts_left};
 
 use crate::kinds::TextType;
 use crate::entry::{Entry, text_from};
-use crate::place::Before;
+use crate::place::{Before, Place};
 use fork_change::row::ResourceId;
 use mac_base::resource::ResType;
 use res_types::value::Part;
@@ -63,6 +63,25 @@ pub(crate) fn push_texts(
     Ok(())
 }
 
+/// Gives a part the first of these texts, where it has a place. The result is the texts after that.
+fn put_text<'a>(
+    alloc: Global,
+    place: Option<Place>,
+    part: &mut Part,
+    texts: &'a [Entry],
+) -> Result<&'a [Entry], AllocError>
+    ensures part { OnOk result (part.new ≡ part_put place part.old texts.entry.now) }
+    ensures left { IfOk result (λ left. left.now ≡ texts_left place texts.entry.now) }
+{
+    match (place, texts.split_first()) {
+        (Some(_), Some((first, others))) => {
+            *part = Part::Text(text_from(alloc, first.text.as_slice())?);
+            Ok(others)
+        }
+        _ => Ok(texts),
+    }
+}
+
 /// Gives the parts of a resource these texts, one after the other, where a text has a place. All else stays.
 pub(crate) fn fill(
     alloc: Global,
@@ -77,12 +96,7 @@ pub(crate) fn fill(
     for at in 0..parts.len() {
         let place = before.place(&parts[at]);
         before = before.after(&parts[at]);
-        if place.is_some() {
-            if let Some((first, others)) = left.split_first() {
-                parts[at] = Part::Text(text_from(alloc, first.text.as_slice())?);
-                left = others;
-            }
-        }
+        left = put_text(alloc, place, &mut parts[at], left)?;
     }
     Ok(())
 }
