@@ -45,7 +45,7 @@ def try_file(program, path, folder):
         file.write(taken)
     if run(program, "texts", copy, "--put", text) != (0, b"", "") or read(copy) != read(path):
         return "it changes where its own texts are put", count
-    longer = b"".join(line[:-2] + b'x"\n' if len(line) < 200 else line + b"\n" for line in taken.split(b"\n")[:-1])
+    longer = b"".join(line[:-1] + b'x"\n' if len(line) < 200 else line + b"\n" for line in taken.split(b"\n")[:-1])
     with open(text, "wb") as file:
         file.write(longer)
     status, _, told = run(program, "texts", copy, "--put", text, "-q")

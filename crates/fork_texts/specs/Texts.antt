@@ -31,14 +31,14 @@ shown what before [] = []
 shown what before (part ∷ others) = shown_part what (place_at before part) part ++ shown what (after before part) others
 
 -- a part with the first of these texts, if there is one
-abbrev pub with_text : Part → List Entry → Part
-with_text part [] = part
-with_text part (first ∷ others) = parts.Text first.text
+abbrev pub first_put : Part → List Entry → Part
+first_put part [] = part
+first_put part (first ∷ others) = parts.Text first.text
 
 -- the same, where it has a place; and the texts after that
 abbrev pub part_put : Option Place → Part → List Entry → Part
 part_put None part texts = part
-part_put (Some place) part texts = with_text part texts
+part_put (Some place) part texts = first_put part texts
 
 abbrev pub texts_left : Option Place → List Entry → List Entry
 texts_left None texts = texts

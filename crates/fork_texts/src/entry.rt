@@ -58,7 +58,7 @@ impl Entry {
     }
 
     /// The same place with a text.
-    pub(crate) fn with_text(&self, alloc: Global, text: &[u8]) -> Result<Entry, AllocError>
+    pub(crate) fn copy_with(&self, alloc: Global, text: &[u8]) -> Result<Entry, AllocError>
         ensures { IfOk result (λ entry. entry ≡ with_entry_text self.now text.now) }
     {
         Ok(Entry {

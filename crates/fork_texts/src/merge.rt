@@ -47,7 +47,7 @@ pub(crate) fn merge<'a>(
     let mut merged = Vec::new(alloc);
     let mut left = lines;
     for entry in entries {
-        merged.push(entry.with_text(alloc, next_text(entry, left))?)?;
+        merged.push(entry.copy_with(alloc, next_text(entry, left))?)?;
         left = next_lines(entry, left);
     }
     Ok(Merged {
