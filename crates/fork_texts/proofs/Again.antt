@@ -32,7 +32,7 @@ gap_stops (suc k) inner expected limit so_far = refl
 
 -- no digit follows an id
 place_stops : (place : Place) (k : ℕ) (inner : List ℕ) → Stops (place_text place ++ gap k inner)
-place_stops Whole k inner = gap_stops k inner
+place_stops Whole k inner expected limit so_far = gap_stops k inner expected limit so_far
 place_stops Name k inner expected limit so_far = refl
 place_stops Title k inner expected limit so_far = refl
 place_stops Short k inner expected limit so_far = refl

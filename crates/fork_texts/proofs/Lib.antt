@@ -5,3 +5,5 @@ pub mod Letters
 pub mod Again
 pub mod Rows
 pub mod Put
+pub mod Loops
+pub mod Romans

@@ -124,16 +124,13 @@ unfoldable pub number_at : Why → ℕ → List ℕ → Result (ℕ × List ℕ)
 number_at expected limit [] = fails [] expected
 number_at expected limit (byte ∷ rest) = if is_digit byte then number_from expected limit 0 (byte ∷ rest) else fails (byte ∷ rest) expected
 
--- an id
+-- an id, by what is after its minus, if there is one
+abbrev pub id_from : Option (List ℕ) → List ℕ → Result (ℤ × List ℕ) Fault
+id_from (Some rest) text = number_at why.Id 32768 rest >>= λ number. Ok (neg_ℤ (pos number.0), number.1)
+id_from None text = number_at why.Id 32767 text >>= λ number. Ok (pos number.0, number.1)
+
 unfoldable pub id_at : List ℕ → Result (ℤ × List ℕ) Fault
-id_at text = elim (after_word (45 ∷ []) text) [
-  | Some rest ↦ (do
-    number ← number_at why.Id 32768 rest
-    Ok (neg_ℤ (pos number.0), number.1))
-  | None ↦ (do
-    number ← number_at why.Id 32767 text
-    Ok (pos number.0, number.1))
-]
+id_at text = id_from (after_word (45 ∷ []) text) text
 
 -- the number of a place, and its bracket
 unfoldable pub numbered_at : List ℕ → Result (Place × List ℕ) Fault

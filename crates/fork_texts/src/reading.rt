@@ -1,7 +1,7 @@
 //! Lines are read as texts and their places.
 
 ghost use Rattle.std.specs.Prelude.{◌≡◌, ◌≤◌, ◌<◌, [], IfOk, length, option_map};
-ghost use Rattle.fork_texts.specs.Reading.{Gives, after_blanks, after_lines, byte_at, digits_at, escape_at, head_at, id_at, is_blank, is_digit, is_stop, kind_at, kind_of, line_at, line_end_at, lines_at, number_at, number_from, numbered_at, place_at, quoted_at, run_at, word_at};
+ghost use Rattle.fork_texts.specs.Reading.{Gives, after_blanks, after_lines, byte_at, digits_at, escape_at, head_at, id_at, is_blank, is_digit, is_stop, kind_at, kind_of, line_at, line_end_at, lines_at, number_at, number_from, numbered_at, place_at, quoted_at, run_at, stops, word_at};
 
 use crate::entry::Entry;
 use crate::fault::{ReadError, Why, refused};
@@ -40,6 +40,16 @@ impl Stop {
         match self {
             Stop::Blank => is_blank(byte),
             Stop::Quote => byte == b'"',
+        }
+    }
+
+    /// Whether a text begins with it.
+    fn begins(self, text: &[u8]) -> bool
+        ensures { result ≡ stops self text.now }
+    {
+        match text.split_first() {
+            Some((byte, _)) => self.is(*byte),
+            None => false,
         }
     }
 }
@@ -122,10 +132,8 @@ fn bytes_at(alloc: Global, stop: Stop, text: &[u8]) -> Result<(Vec<u8>, &[u8]), 
     let mut bytes = Vec::new(alloc);
     let mut rest = text;
     for _turn in 0..text.len() {
-        if let Some(first) = rest.first() {
-            if stop.is(*first) {
-                return Ok((bytes, rest));
-            }
+        if stop.begins(rest) {
+            return Ok((bytes, rest));
         }
         let (byte, after) = byte_at(rest)?;
         bytes.push(byte)?;

@@ -100,7 +100,7 @@ fn put_row<'a>(
     match row_with(alloc, types, row, &merged.entries)? {
         Some(new) => Ok((Some(new), left)),
         None => {
-            let used = &lines[..lines.len() - left.len()];
+            let used = &lines[..lines.len().saturating_sub(left.len())];
             let at = line_at_fault(used).map_or(0, |line| line.quote);
             Err(ReadError::Refused(Fault {
                 left: at,
