@@ -66,9 +66,13 @@ refusal_of text fault =
     let at = position 1 1 (take (length text - fault.left) text) in
     record { line = at.0; column = at.1; why = fault.why }
 
+-- no rows come of these lines in MacRoman, unless the host has no memory
+abbrev pub RomanRefuses : List TextType → List Row → List ℕ → TextFault → Type 0
+RomanRefuses types rows text faults.HostFull = Unit {0}
+RomanRefuses types rows text (faults.Refused refusal) = (changed : List Row) → ¬ PutsText types rows text changed
+
 -- no rows come of these lines, which have a letter that MacRoman lacks, or aren't lines of the texts of these rows; unless
 -- the host has no memory
 abbrev pub Refuses : List TextType → List Row → List ℕ → TextFault → Type 0
-Refuses types rows lines faults.HostFull = Unit {0}
-Refuses types rows lines (faults.Refused refusal) =
-    ((bytes : List ℕ) × IsRomanOf lines false bytes) ⊎ ((bytes : List ℕ) × (lines ≡ roman_text bytes) × ((changed : List Row) → ¬ PutsText types rows bytes changed))
+Refuses types rows lines fault =
+    ((bytes : List ℕ) × IsRomanOf lines false bytes) ⊎ (((bytes : List ℕ) × (lines ≡ roman_text bytes) × RomanRefuses types rows bytes fault) ⊎ (fault ≡ faults.HostFull))

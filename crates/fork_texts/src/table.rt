@@ -1,12 +1,11 @@
 //! The texts of a table as lines, and a table with the texts of lines.
 
-ghost use Rattle.std.specs.Prelude.{◌≡◌, ◌++◌, [], ℕ, List, IfErr, IfOk, OnOk, string_bytes};
+ghost use Rattle.std.specs.Prelude.{◌≡◌, ◌≢◌, ◌++◌, [], ℕ, List, IfErr, IfNone, IfOk, IfSome, OnOk, string_bytes};
 ghost use Rattle.fork_bytes.specs.Rows.{Row};
 ghost use Rattle.fork_list.specs.Roman.{roman_text};
 ghost use Rattle.fork_texts.specs.Putting.{Becomes, BecomesNone, Puts, merged, with_new};
-ghost use Rattle.fork_texts.specs.Tables.{PutsNone, PutsText, Refuses, TextPutsNone, has_text, lines_of, odd_of, position, refusal_of, row_lines, why_left};
+ghost use Rattle.fork_texts.specs.Tables.{PutsNone, PutsText, Refuses, RomanRefuses, TextPutsNone, has_text, lines_of, odd_of, position, refusal_of, row_lines, why_left};
 ghost use Rattle.fork_texts.specs.Texts.{entries_of, is_typed};
-ghost use Rattle.fork_texts.specs.declared.fault.TextFault.TheVariants.{Refused};
 
 use crate::entry::same_entries;
 use crate::fault::{Fault, ReadError, Refusal, TextFault, Why};
@@ -140,6 +139,14 @@ fn why_left(
     Ok(Why::NotThere)
 }
 
+/// The first line, if one is left.
+fn first_line(lines: &[Line]) -> Option<&Line>
+    ensures none { IfNone result (lines.now ≡ []) }
+    ensures some { IfSome result (λ _. lines.now ≢ []) }
+{
+    lines.first()
+}
+
 /// Adds a row, if there is one.
 fn push_new(
     changed: &mut Vec<Resource<Text>>,
@@ -173,7 +180,7 @@ fn put_lines(
         left = others;
         push_new(&mut changed, new)?;
     }
-    match left.first() {
+    match first_line(left) {
         None => Ok(changed),
         Some(line) => Err(ReadError::Refused(Fault {
             left: line.start,
@@ -200,16 +207,16 @@ fn position_after(bytes: &[u8]) -> (usize, usize)
 }
 
 /// The fault of a text, and its line and column.
-fn refusal_of(text: &[u8], fault: Fault) -> TextFault
-    ensures { result ≡ Refused (refusal_of text.now fault) }
+fn refusal_of(text: &[u8], fault: Fault) -> Refusal
+    ensures { result ≡ refusal_of text.now fault }
 {
     let before = &text[..text.len().saturating_sub(fault.left)];
     let (line, column) = position_after(before);
-    TextFault::Refused(Refusal {
+    Refusal {
         line,
         column,
         why: fault.why,
-    })
+    }
 }
 
 /// The rows that change where their texts become those of the lines of a text in MacRoman.
@@ -226,6 +233,23 @@ fn put_read(
     put_lines(alloc, types, rows, &lines)
 }
 
+/// The same, or why not, with its line and column.
+fn put_roman(
+    alloc: Global,
+    types: &[TextType],
+    rows: &[Row],
+    text: &[u8],
+) -> Result<Vec<Resource<Text>>, TextFault>
+    ensures puts { IfOk result (λ changed. PutsText types.now rows.now text.now changed.items) }
+    ensures none { IfErr result (RomanRefuses types.now rows.now text.now) }
+{
+    match put_read(alloc, types, rows, text) {
+        Ok(changed) => Ok(changed),
+        Err(ReadError::HostFull) => Err(TextFault::HostFull),
+        Err(ReadError::Refused(fault)) => Err(TextFault::Refused(refusal_of(text, fault))),
+    }
+}
+
 /// The rows that change where their texts become those of lines, as `texts_of` writes them: lines may be left out.
 pub fn put_texts(
     alloc: Global,
@@ -240,19 +264,14 @@ pub fn put_texts(
         return Err(TextFault::HostFull);
     };
     let text = roman.bytes.as_slice();
-    if !roman.is_whole {
-        return Err(refusal_of(
-            text,
-            Fault {
-                left: 0,
-                why: Why::Letter,
-            },
-        ));
-    }
-    match put_read(alloc, types, rows, text) {
-        Ok(changed) => Ok(changed),
-        Err(ReadError::HostFull) => Err(TextFault::HostFull),
-        Err(ReadError::Refused(fault)) => Err(refusal_of(text, fault)),
+    if roman.is_whole {
+        put_roman(alloc, types, rows, text)
+    } else {
+        let fault = Fault {
+            left: 0,
+            why: Why::Letter,
+        };
+        Err(TextFault::Refused(refusal_of(text, fault)))
     }
 }
 
