@@ -211,6 +211,23 @@ fn shows(
     Ok(same_entries(&entries, texts))
 }
 
+/// The row with this name and these bytes.
+fn new_row(row: &Row, name: Option<Name>, datum: Text) -> Resource<Text>
+    ensures kind { result.kind ≡ row.now.kind }
+    ensures id { result.id ≡ row.now.id }
+    ensures attributes { result.attributes ≡ row.now.attributes }
+    ensures name { result.name ≡ name }
+    ensures datum { result.datum ≡ datum }
+{
+    Resource {
+        kind: row.kind,
+        id: row.id,
+        name,
+        attributes: row.attributes,
+        datum,
+    }
+}
+
 /// The row with these texts. None where they can't be in it.
 pub(crate) fn row_with(
     alloc: Global,
@@ -227,13 +244,7 @@ pub(crate) fn row_with(
     let Some(datum) = bytes_put(alloc, types, row, after_name(row, texts))? else {
         return Ok(None);
     };
-    let new = Resource {
-        kind: row.kind,
-        id: row.id,
-        name,
-        attributes: row.attributes,
-        datum,
-    };
+    let new = new_row(row, name, datum);
     if shows(alloc, types, &new, texts)? {
         Ok(Some(new))
     } else {
