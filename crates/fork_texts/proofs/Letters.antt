@@ -96,10 +96,10 @@ written_reads stop byte small slash apart =
       | inl end ↦ subst P (sym (cond-true (eqb byte 13) (92 ∷ 110 ∷ []) (tab_or byte) end))
           (λ rest. let Q : ℕ → Type 0 = λ b. byte_at (92 ∷ 110 ∷ rest) ≡ Ok (b, rest) in (slash, subst Q (sym (eqb-true byte 13 end)) (escaped_end rest)))
       | inr more ↦ subst P (sym (cond-false (eqb byte 13) (92 ∷ 110 ∷ []) (tab_or byte) more)) (elim (cases_Bool (eqb byte 9)) [
-          | inl tab ↦ subst P (sym (cond-true (eqb byte 9) (92 ∷ 116 ∷ []) (marked_or byte) tab))
-              (λ rest. let Q : ℕ → Type 0 = λ b. byte_at (92 ∷ 116 ∷ rest) ≡ Ok (b, rest) in (slash, subst Q (sym (eqb-true byte 9 tab)) (escaped_tab rest)))
-          | inr other ↦ subst P (sym (cond-false (eqb byte 9) (92 ∷ 116 ∷ []) (marked_or byte) other)) (marked_reads stop byte small slash (apart more other))
-        ])
+        | inl tab ↦ subst P (sym (cond-true (eqb byte 9) (92 ∷ 116 ∷ []) (marked_or byte) tab))
+            (λ rest. let Q : ℕ → Type 0 = λ b. byte_at (92 ∷ 116 ∷ rest) ≡ Ok (b, rest) in (slash, subst Q (sym (eqb-true byte 9 tab)) (escaped_tab rest)))
+        | inr other ↦ subst P (sym (cond-false (eqb byte 9) (92 ∷ 116 ∷ []) (marked_or byte) other)) (marked_reads stop byte small slash (apart more other))
+      ])
     ]
 
 -- a byte of a text
@@ -172,6 +172,7 @@ bare_is (a ∷ b ∷ c ∷ d ∷ []) four =
     second a b =
         let S : ℕ → Type 0 = λ x. kind_of (take (bare_length (a ∷ x ∷ 32 ∷ 32 ∷ [])) (a ∷ x ∷ 32 ∷ 32 ∷ [])) ≡ Some (a ∷ x ∷ 32 ∷ 32 ∷ []) in
         elim (cases_Bool (eqb b 32)) [ inl blank ↦ subst S (sym (eqb-true b 32 blank)) refl | inr last ↦ rw last refl ]
+
     third : (a b c : ℕ) → kind_of (take (bare_length (a ∷ b ∷ c ∷ 32 ∷ [])) (a ∷ b ∷ c ∷ 32 ∷ [])) ≡ Some (a ∷ b ∷ c ∷ 32 ∷ [])
     third a b c =
         let S : ℕ → Type 0 = λ x. kind_of (take (bare_length (a ∷ b ∷ x ∷ 32 ∷ [])) (a ∷ b ∷ x ∷ 32 ∷ [])) ≡ Some (a ∷ b ∷ x ∷ 32 ∷ []) in

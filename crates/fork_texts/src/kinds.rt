@@ -56,10 +56,7 @@ fn number(alloc: Global, width: u8) -> Field
 fn then(alloc: Global, first: Field, others: Field) -> Result<Field, AllocError>
     ensures { IfOk result (λ field. field_words field ≡ field_words first ++ field_words others) }
 {
-    Ok(Field::Then(
-        Box::new(alloc, first)?,
-        Box::new(alloc, others)?,
-    ))
+    Ok(Field::Then(Box::new(alloc, first)?, Box::new(alloc, others)?))
 }
 
 /// Numbers in so many bits each, and then other fields.
@@ -147,11 +144,7 @@ fn menu(alloc: Global) -> Result<Declaration, AllocError>
         numbers_then(alloc, &[8, 8, 8], number(alloc, 8))?,
     )?;
     let texts = then(alloc, PASCAL, ended(alloc, item)?)?;
-    Ok(whole(numbers_then(
-        alloc,
-        &[16, 16, 16, 16, 16, 32],
-        texts,
-    )?))
+    Ok(whole(numbers_then(alloc, &[16, 16, 16, 16, 16, 32], texts)?))
 }
 
 /// 'DITL': one less than the count, and the items. Each has a place for a handle, a rectangle, its type, and its text
@@ -186,11 +179,7 @@ fn dialog(alloc: Global) -> Result<Declaration, AllocError>
 fn control(alloc: Global) -> Result<Declaration, AllocError>
     ensures { IfOk result (λ declaration. words_of declaration ≡ control_words) }
 {
-    Ok(whole(numbers_then(
-        alloc,
-        &[16, 16, 16, 16, 16, 8, 8, 16, 16, 16, 32],
-        PASCAL,
-    )?))
+    Ok(whole(numbers_then(alloc, &[16, 16, 16, 16, 16, 8, 8, 16, 16, 16, 32], PASCAL)?))
 }
 
 /// 'vers': the version's number in two bytes, its stage, which one it is of this stage, the country, and its texts.

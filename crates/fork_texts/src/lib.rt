@@ -2,9 +2,9 @@
 //! and a table whose texts are those of such lines. Which fields of a resource are texts is declared for each type.
 #![tactic(auto)]
 
-mod kinds;
 mod entry;
 pub mod fault;
+mod kinds;
 mod laws;
 mod line;
 mod merge;
@@ -15,8 +15,8 @@ mod roman;
 mod row;
 mod table;
 
-pub use kinds::{Naming, TextType, text_types};
 pub use entry::Entry;
+pub use kinds::{Naming, TextType, text_types};
 pub use laws::line_laws;
 pub use place::Place;
 pub use table::{Listed, put_texts, rows_of, texts_of};

@@ -5,8 +5,8 @@ ghost use Rattle.fork_texts.specs.Kinds.{type_of};
 ghost use Rattle.fork_texts.specs.Places.{place_at, start};
 ghost use Rattle.fork_texts.specs.Texts.{filled, part_put, shown, shown_part, texts_left};
 
-use crate::kinds::TextType;
 use crate::entry::{Entry, text_from};
+use crate::kinds::TextType;
 use crate::place::{Before, Place};
 use fork_change::row::ResourceId;
 use mac_base::resource::ResType;

@@ -9,8 +9,8 @@ ghost use Rattle.fork_texts.specs.Texts.{entries_of, is_there, is_typed, name_en
 ghost use Rattle.res_types.specs.Bits.{byte_bits};
 ghost use Rattle.res_types.specs.Meaning.{decode};
 
-use crate::kinds::TextType;
 use crate::entry::{Entry, same_entries, text_from};
+use crate::kinds::TextType;
 use crate::place::Place;
 use crate::resource::{fill, push_texts, type_of};
 use fork_bytes::table::{Contents, Row};
@@ -126,11 +126,7 @@ fn short_name(alloc: Global, bytes: &[u8]) -> Result<Option<Name>, AllocError>
 }
 
 /// The name that a row gets, which is the first of these texts where it has one. None where the name is too long.
-fn name_put(
-    alloc: Global,
-    row: &Row,
-    texts: &[Entry],
-) -> Result<Option<Option<Name>>, AllocError>
+fn name_put(alloc: Global, row: &Row, texts: &[Entry]) -> Result<Option<Option<Name>>, AllocError>
     ensures name { IfOk result (λ found. IfSome found (λ name. name ≡ put_name row.now.name texts.now)) }
     ensures short { IfOk result (λ found. IfSome found (λ name. IfSome name (λ bytes. length bytes ≤ 255))) }
     ensures long { IfOk result (λ found. IfNone found (¬ IfSome (put_name row.now.name texts.now) (λ bytes. length bytes ≤ 255))) }

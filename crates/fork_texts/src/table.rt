@@ -73,9 +73,11 @@ fn line_at_fault<'a>(lines: &'a [Line]) -> Option<&'a Line> {
     lines
         .iter()
         .find(|line| line.entry.text.as_slice().len() > 255)
-        .or(lines
-            .iter()
-            .find(|line| line.entry.text.as_slice().is_empty()))
+        .or(
+            lines
+                .iter()
+                .find(|line| line.entry.text.as_slice().is_empty()),
+        )
         .or(lines.first())
 }
 
@@ -110,12 +112,7 @@ fn put_row<'a>(
 }
 
 /// Whether a row has the text of a line.
-fn has_text(
-    alloc: Global,
-    types: &[TextType],
-    row: &Row,
-    line: &Line,
-) -> Result<bool, AllocError>
+fn has_text(alloc: Global, types: &[TextType], row: &Row, line: &Line) -> Result<bool, AllocError>
     ensures { IfOk result (λ has. has ≡ has_text types.now line.now row.now) }
 {
     let entries = entries_of(alloc, types, row)?;
@@ -123,12 +120,7 @@ fn has_text(
 }
 
 /// Why a line is left when all rows have been seen.
-fn why_left(
-    alloc: Global,
-    types: &[TextType],
-    rows: &[Row],
-    line: &Line,
-) -> Result<Why, AllocError>
+fn why_left(alloc: Global, types: &[TextType], rows: &[Row], line: &Line) -> Result<Why, AllocError>
     ensures { IfOk result (λ why. why ≡ why_left types.now rows.now line.now) }
 {
     for row in rows {
@@ -276,10 +268,7 @@ pub fn put_texts(
 }
 
 /// The rows that borrow the bytes of these.
-pub fn rows_of<'a>(
-    alloc: Global,
-    rows: &'a [Resource<Text>],
-) -> Result<Vec<Row<'a>>, AllocError>
+pub fn rows_of<'a>(alloc: Global, rows: &'a [Resource<Text>]) -> Result<Vec<Row<'a>>, AllocError>
     ensures { IfOk result (λ made. made.items ≡ rows.entry.now) }
 {
     let mut made = Vec::new(alloc);
@@ -293,9 +282,9 @@ pub fn rows_of<'a>(
 mod tests {
     use super::*;
     use crate::kinds::text_types;
+    use bitflags::Flags;
     use fork_bytes::table::Contents;
     use mac_base::resource::{ResAttrs, ResType};
-    use bitflags::Flags;
     use std::test::Fail;
 
     #[test]
@@ -311,10 +300,16 @@ mod tests {
         };
         let rows = vec![in alloc; row]?;
         let listed = texts_of(alloc, &types, &rows)?;
-        assert_eq!(rt; listed.lines.as_str(), "STR# -5 [1]      \"Hi\"\nSTR# -5 [2]      \"\u{2022}\\n\\\"\"\n");
+        assert_eq!(rt;
+            listed.lines.as_str(),
+            "STR# -5 [1]      \"Hi\"\nSTR# -5 [2]      \"\u{2022}\\n\\\"\"\n"
+        );
         let changed = put_texts(alloc, &types, &rows, "STR# -5 [2] \"\"")?;
         assert_eq!(rt; changed.len(), 1);
-        assert_eq!(rt; changed[0].datum.as_slice(), b"\x00\x02\x02Hi\x00".as_slice());
+        assert_eq!(rt;
+            changed[0].datum.as_slice(),
+            b"\x00\x02\x02Hi\x00".as_slice()
+        );
         Ok(())
     }
 }

@@ -59,7 +59,9 @@ fn tell_odd(host: &Host<'_>, file: &str, odd: &[ResourceId]) {
     for what in odd {
         let kind = KindText::new(Letters::Roman, what.kind);
         let id = what.id;
-        let _ = eprintln!(host.rt; "{file}: {kind} {id}: its bytes aren't of this type, and its texts aren't shown");
+        let _ = eprintln!(host.rt;
+            "{file}: {kind} {id}: its bytes aren't of this type, and its texts aren't shown"
+        );
     }
 }
 

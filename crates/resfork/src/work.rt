@@ -8,8 +8,8 @@ ghost use Rattle.fork_saves.specs.Saving.{EndsSaved};
 ghost use Rattle.fork_saves.specs.Changing.{IsForFile};
 ghost use Rattle.resfork.specs.Running.{ChangesFiles, IsForPlace, ReadsWork, is_dry_place, writes_nothing};
 
-use crate::texts::{list_texts, put_texts};
 use crate::rez::{Like, derez_file, pack_folder, rez_file};
+use crate::texts::{list_texts, put_texts};
 use file_acts::acts::{Acts, look_at, write_text};
 use file_acts::found::{fork_found, table_found};
 use file_acts::host::Host;
