@@ -90,8 +90,8 @@ fn rows_put<'a>(
 ) -> Result<Vec<Resource<Text>>, Failed<'a>> {
     let alloc = host.alloc();
     let file = asked.target.file;
-    let found = of_file(file, fork_found(host, bytes))?;
-    let table = of_file(file, table_found(host, &found, bytes))?;
+    let found = of_file(file, fork_found(alloc, bytes))?;
+    let table = of_file(file, table_found(alloc, &found, bytes))?;
     let rows = table.rows.as_slice();
     of_file(file, check_once(host, rows))?;
     let types = of_file(file, text_types(alloc).map_err(Problem::from))?;
