@@ -1,7 +1,7 @@
 use Rattle.std.proofs.Common.{◌≡◌, ◌∙◌, ◌+◌, ◌∷◌, [], List, sym, ap, subst, drop, arith}
 use Rattle.std.proofs.lemmas.List.{drop_all, drop_more}
 use Rattle.fork_bytes.specs.Rows.{Row}
-use Rattle.fork_texts.proofs.Rows.{IsAt, ended, line_left, next, no_row}
+use Rattle.fork_texts.proofs.Rows.{IsAt, ended, next, no_row}
 use Rattle.fork_texts.proofs.table.put_lines.Goals as goal
 
 pub returns-in-Err-clause-none : goal.returns-in-Err-clause-none
