@@ -38,12 +38,13 @@ is_other_sound name =
 abbrev pub is_unmade : List ℕ → Bool
 is_unmade name = is_other_picture (map to_ascii_lowercase name) || is_other_sound (map to_ascii_lowercase name)
 
+-- the form that the ending of a name in small letters asks for
+abbrev pub form_by_small : List ℕ → Option ShowAs
+form_by_small name = if has_ending name (codes ".png") then Some Png else if has_ending name (codes ".wav") then Some Wav else None
+
 -- the form that the ending of a name asks for
 abbrev pub form_by_ending : List ℕ → Option ShowAs
-form_by_ending name =
-    if has_ending (map to_ascii_lowercase name) (codes ".png") then Some Png
-    else if has_ending (map to_ascii_lowercase name) (codes ".wav") then Some Wav
-    else None
+form_by_ending name = form_by_small (map to_ascii_lowercase name)
 
 -- the form of what is shown: the one that a word names, or else the one that a name's ending asks for
 abbrev pub IsViewForm : Option (List ℕ) → Option (List ℕ) → Option ShowAs → Type 0

@@ -20,7 +20,7 @@ says_how found =
 
 -- the texts of a file are listed: no lines are put, and nothing is said of how
 pub record IsListing (found : Found) (file : List ℕ) : Type 0 where
-  pub file : file ≡ word_of found (codes "file")
+  pub named : file ≡ word_of found (codes "file")
   pub put : first_value found (codes "put") ≡ None
   pub how : says_how found ≡ false
 

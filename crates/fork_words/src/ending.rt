@@ -1,7 +1,7 @@
 //! The form of what `show` writes: the one that `--as` names, or that the ending of a file's name asks for.
 
 ghost use Rattle.std.specs.Prelude.{◌≡◌, ◌||◌, false, IfErr, IfOk, option_map};
-ghost use Rattle.fork_words.specs.Endings.{IsEndingFault, IsFormFault, IsViewForm, form_by_ending, form_named, has_ending, is_other_picture, is_other_sound, is_unmade};
+ghost use Rattle.fork_words.specs.Endings.{IsEndingFault, IsFormFault, IsViewForm, form_by_ending, form_by_small, form_named, has_ending, is_other_picture, is_other_sound, is_unmade};
 
 use crate::asked::NotAsked;
 use crate::fault::Fault;
@@ -64,6 +64,19 @@ fn is_refused(name: &[u8]) -> bool
     is_other_picture(name) || is_other_sound(name)
 }
 
+/// The form that the ending of a name in small letters asks for, if it asks for one.
+fn form_by_small(name: &[u8]) -> Option<ShowAs>
+    ensures { result ≡ form_by_small name.now }
+{
+    if has_ending(name, b".png") {
+        Some(ShowAs::Png)
+    } else if has_ending(name, b".wav") {
+        Some(ShowAs::Wav)
+    } else {
+        None
+    }
+}
+
 /// The form that the ending of a name asks for, in capital or small letters, if it asks for one. That of a picture or a
 /// sound which isn't made is refused.
 fn form_by_ending(alloc: Global, name: &str) -> Result<Option<ShowAs>, NotAsked>
@@ -76,13 +89,7 @@ fn form_by_ending(alloc: Global, name: &str) -> Result<Option<ShowAs>, NotAsked>
     if is_refused(name) {
         return Err(NotAsked::Fault(Fault::NoEnding));
     }
-    if has_ending(name, b".png") {
-        Ok(Some(ShowAs::Png))
-    } else if has_ending(name, b".wav") {
-        Ok(Some(ShowAs::Wav))
-    } else {
-        Ok(None)
-    }
+    Ok(form_by_small(name))
 }
 
 /// The form of what is shown: the one that `--as` names, or else the one that the ending of the output's name asks for.

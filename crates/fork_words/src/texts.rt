@@ -33,7 +33,7 @@ fn says_how(target: &Target<'_>) -> bool
 
 /// What `texts` asks for without `--put`: to list texts. What goes with that alone is refused.
 fn listing<'a>(matches: &ArgMatches<'a>, file: &'a str) -> Result<Work<'a>, Fault>
-    requires file { file.entry.now ≡ word_of (found_of matches.now) (codes "file") }
+    requires file { file.now ≡ word_of (found_of matches.now) (codes "file") }
     requires alone { first_value (found_of matches.now) (codes "put") ≡ None }
     ensures asked { IfOk result (AsksFor (codes "texts") (found_of matches.now)) }
     ensures once { IfOk result ReadsOnce }
