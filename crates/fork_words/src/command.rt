@@ -417,15 +417,26 @@ fn bare_command<'a>(alloc: Global, text: &CommandText) -> Command<'a> {
     }
 }
 
-/// A command, with its words.
-fn command_of<'a>(alloc: Global, text: &CommandText) -> Result<Command<'a>, AllocError> {
-    let mut command = bare_command(alloc, text);
-    for word in WORDS {
-        if word.commands.contains(&text.name) {
+/// A command with those of these words that are its own.
+fn with_words<'a>(
+    alloc: Global,
+    command: Command<'a>,
+    name: &str,
+    words: &[Word],
+) -> Result<Command<'a>, AllocError> {
+    let mut command = command;
+    for word in words {
+        if word.commands.contains(&name) {
             command = command.arg(arg_of(alloc, word)?)?;
         }
     }
     Ok(command)
+}
+
+/// A command, with its words.
+fn command_of<'a>(alloc: Global, text: &CommandText) -> Result<Command<'a>, AllocError> {
+    let command = bare_command(alloc, text);
+    with_words(alloc, command, text.name, WORDS)
 }
 
 /// The program, without commands.
