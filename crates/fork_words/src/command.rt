@@ -237,8 +237,8 @@ macro_rules! word {
     };
 }
 
-/// The words of the commands, options and then operands in their order.
-const WORDS: &[Word] = &[
+/// The options of the commands.
+const OPTIONS: &[Word] = &[
     word!("ls" "unpack" "derez", "type", Form::Short('t', "type"), Values::Each("TYPE");
         "Only resources of this type, as ls shows it (STR is 'STR '); it may be given several times"),
     word!("ls", "types", Form::Long("types"), Values::Flag;
@@ -327,6 +327,10 @@ const WORDS: &[Word] = &[
         "Doesn't say what was done"),
     word!("ls" "get" "info" "check" "salvage" "show" "unpack" "page" "put" "rm" "set" "cp" "diff" "pack" "derez" "rez" "texts" "convert", "limit", Form::Long("limit"), Values::One("SIZE");
         "Refuses a file of more bytes than this: a number, which K, M or G after it counts in 1024s; else 1G"),
+];
+
+/// Their operands, in their order.
+const OPERANDS: &[Word] = &[
     word!("ls" "info" "check" "page", "file", Form::Operand, Values::Many("FILE"), is_required: true;
         "The files; - is the standard input"),
     word!("get" "salvage" "show" "unpack" "put" "rm" "set" "derez" "rez" "texts", "file", Form::Operand, Values::One("FILE"), is_required: true;
@@ -433,10 +437,28 @@ fn with_words<'a>(
     Ok(command)
 }
 
+/// A command with its options.
+fn with_options<'a>(
+    alloc: Global,
+    command: Command<'a>,
+    name: &str,
+) -> Result<Command<'a>, AllocError> {
+    with_words(alloc, command, name, OPTIONS)
+}
+
+/// A command with its operands.
+fn with_operands<'a>(
+    alloc: Global,
+    command: Command<'a>,
+    name: &str,
+) -> Result<Command<'a>, AllocError> {
+    with_words(alloc, command, name, OPERANDS)
+}
+
 /// A command, with its words.
 fn command_of<'a>(alloc: Global, text: &CommandText) -> Result<Command<'a>, AllocError> {
-    let command = bare_command(alloc, text);
-    with_words(alloc, command, text.name, WORDS)
+    let command = with_options(alloc, bare_command(alloc, text), text.name)?;
+    with_operands(alloc, command, text.name)
 }
 
 /// The program, without commands.
