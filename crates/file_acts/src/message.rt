@@ -310,7 +310,8 @@ fn lines_of(alloc: Global, file: &str, problem: &Problem) -> Result<String, Allo
         Problem::Refused(Refusal::Inside(archive)) => inside_line(alloc, file, *archive),
         Problem::Refused(
             Refusal::Damaged {
-                is_readable: true, ..
+                is_readable: true,
+                ..
             },
         )
         | Problem::Salvageable(_) => damaged_line(alloc, file, problem),

@@ -67,7 +67,10 @@ fn losses_lines(alloc: Global, path: &str, losses: Losses) -> Result<String, All
     let path = FileName(path);
     let mut lines = String::new(alloc);
     if let Some(names) = losses.names {
-        writeln!(lines, "{path}: has {names} names; the other names keep the old file")?;
+        writeln!(
+            lines,
+            "{path}: has {names} names; the other names keep the old file"
+        )?;
     }
     push_change(&mut lines, path, "user", losses.user)?;
     push_change(&mut lines, path, "group", losses.group)?;
@@ -115,7 +118,11 @@ fn renewed(
         log,
     ) {
         Ok(prepared) => {
-            tell(host, path, losses_lines(host.alloc(), path, prepared.losses()));
+            tell(
+                host,
+                path,
+                losses_lines(host.alloc(), path, prepared.losses()),
+            );
             match prepared.put(log) {
                 Ok(_) => Ok(()),
                 Err(refusal) => Err(refusal),
@@ -207,7 +214,11 @@ impl<'a> ReadyFile<'a> {
         note_saved(acts, &log);
         match prepared {
             Ok(prepared) => {
-                tell(host, path, losses_lines(host.alloc(), path, prepared.losses()));
+                tell(
+                    host,
+                    path,
+                    losses_lines(host.alloc(), path, prepared.losses()),
+                );
                 Ok(ReadyFile { path, prepared })
             }
             Err(error) => Err(not_saved(host, path, error)),

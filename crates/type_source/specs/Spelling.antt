@@ -295,7 +295,7 @@ Spells Nothing Row before after = before ≡ after
 Spells (Then' p first q second) Row before after = (mid : List Token) × Spells first One before mid × Spells second Row mid after
 Spells (Then' p first q second) (Keyed key at) before after = (mid : List Token)
     × (((key.offset ≡ at) × IsKeyField key first before mid × Spells second Row mid after)
-      ⊎ ((bits : ℕ) × (bits_of_field first ≡ Some bits) × Spells first One before mid × Spells second (Keyed key (at + bits)) mid after))
+    ⊎ ((bits : ℕ) × (bits_of_field first ≡ Some bits) × Spells first One before mid × Spells second (Keyed key (at + bits)) mid after))
 Spells (Number field) One before after = SpellsNumber field before after
 Spells (Text form style) One before after = SpellsText form style before after
 Spells (Zero_bits zeros) One before after = SpellsZeros zeros before after

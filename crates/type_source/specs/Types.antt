@@ -34,7 +34,7 @@ abbrev pub SpellsIds : Option Ids → List Token → List Token → Type 0
 SpellsIds None before after = before ≡ after
 SpellsIds (Some ids) before after = (start : List Token) × (before ≡ tokens.Mark marks.OpenParenthesis ∷ start)
     × (((ids.last ≡ ids.first) × SpellsId ids.first start (tokens.Mark marks.CloseParenthesis ∷ after))
-      ⊎ ((mid : List Token) × SpellsId ids.first start (tokens.Mark marks.Colon ∷ mid) × SpellsId ids.last mid (tokens.Mark marks.CloseParenthesis ∷ after)))
+    ⊎ ((mid : List Token) × SpellsId ids.first start (tokens.Mark marks.Colon ∷ mid) × SpellsId ids.last mid (tokens.Mark marks.CloseParenthesis ∷ after)))
 
 -- the same id, or this one in parentheses
 abbrev pub SpellsOneId : Option ℤ → List Token → List Token → Type 0

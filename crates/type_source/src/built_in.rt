@@ -1,7 +1,8 @@
 //! The standard types.
 
 /// The declarations of the standard types, as Inside Macintosh says what their bytes are.
-pub const BUILT_IN: &[u8] = b"/* The standard types of resources, as Inside Macintosh says what their bytes are. */
+pub const BUILT_IN: &[u8] =
+    b"/* The standard types of resources, as Inside Macintosh says what their bytes are. */
 
 /* Texts. */
 type 'STR ' { pstring; };

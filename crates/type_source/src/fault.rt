@@ -62,7 +62,10 @@ impl fmt::Display for Expected {
             Expected::Digits => write!(f, "digits of a number below 2^32 are expected"),
             Expected::Quote(quote) => {
                 let quote = char::from(quote);
-                write!(f, "the {quote} that ends a text is expected; \\ isn't read yet")
+                write!(
+                    f,
+                    "the {quote} that ends a text is expected; \\ isn't read yet"
+                )
             }
             Expected::Mark(mark) => {
                 let mark = char::from(mark);
@@ -70,9 +73,15 @@ impl fmt::Display for Expected {
             }
             Expected::Name => write!(f, "a name is expected"),
             Expected::Number => write!(f, "a number is expected"),
-            Expected::Field => write!(f, "a field is expected; arrays, switches and labels aren't read yet"),
+            Expected::Field => write!(
+                f,
+                "a field is expected; arrays, switches and labels aren't read yet"
+            ),
             Expected::Bits => write!(f, "from 1 to 32 bits are expected, as [7]"),
-            Expected::Constant => write!(f, "a number, or up to four characters in quotes, is expected"),
+            Expected::Constant => write!(
+                f,
+                "a number, or up to four characters in quotes, is expected"
+            ),
             Expected::Fitting => write!(f, "a number that fits the field is expected"),
             Expected::Unit => write!(f, "bit, nibble, byte, word or long is expected"),
             Expected::AlignUnit => write!(f, "byte, word or long is expected"),
@@ -118,8 +127,7 @@ impl<T: Drop> From<AllocFailed<T>> for ReadError {
 }
 
 /// Something else is expected where this is left.
-pub(crate) fn refused<T>(left: &[T], expected: Expected) -> ReadError
-{
+pub(crate) fn refused<T>(left: &[T], expected: Expected) -> ReadError {
     ReadError::Refused(Fault {
         left: left.len(),
         expected,

@@ -166,7 +166,9 @@ fn value_of(token: Token) -> Option<u32>
 }
 
 /// A number, characters, or a minus and a number.
-pub(crate) fn constant_at<'s, 'a>(tokens: &'s [Token<'a>]) -> Result<(Constant, &'s [Token<'a>]), ReadError>
+pub(crate) fn constant_at<'s, 'a>(
+    tokens: &'s [Token<'a>],
+) -> Result<(Constant, &'s [Token<'a>]), ReadError>
     ensures { IfOk result (λ x. SpellsConstant x.0 tokens.now x.1.now) }
 {
     let (is_below, digits) = match after_mark(Mark::Minus, tokens) {
@@ -211,7 +213,10 @@ fn fitted(width: u8, constant: Constant) -> Option<u32>
 }
 
 /// A constant that fits so many bits.
-fn fitted_at<'s, 'a>(width: u8, tokens: &'s [Token<'a>]) -> Result<(u32, &'s [Token<'a>]), ReadError>
+fn fitted_at<'s, 'a>(
+    width: u8,
+    tokens: &'s [Token<'a>],
+) -> Result<(u32, &'s [Token<'a>]), ReadError>
     requires { width ≤ 32 }
     ensures { IfOk result (λ x. SpellsFitted width x.0 tokens.now x.1.now) }
 {
@@ -280,20 +285,44 @@ pub(crate) fn number_rest<'s, 'a>(
     if let Some(rest) = after_mark(Mark::Semicolon, tokens) {
         let names = Vec::new(alloc);
         let only = None;
-        return Ok((NumberField { width, only, form, names }, rest));
+        return Ok((
+            NumberField {
+                width,
+                only,
+                form,
+                names,
+            },
+            rest,
+        ));
     }
     if let Some(mid) = after_mark(Mark::Equals, tokens) {
         let (value, rest) = fitted_at(width, mid)?;
         let rest = mark_at(Mark::Semicolon, rest)?;
         let names = Vec::new(alloc);
         let only = Some(value);
-        return Ok((NumberField { width, only, form, names }, rest));
+        return Ok((
+            NumberField {
+                width,
+                only,
+                form,
+                names,
+            },
+            rest,
+        ));
     }
     let mut names = Vec::new(alloc);
     let rest = push_names(width, MOST_PARTS, 0, &mut names, tokens)?;
     let rest = mark_at(Mark::Semicolon, rest)?;
     let only = None;
-    Ok((NumberField { width, only, form, names }, rest))
+    Ok((
+        NumberField {
+            width,
+            only,
+            form,
+            names,
+        },
+        rest,
+    ))
 }
 
 /// A number field.

@@ -23,9 +23,7 @@ pub(crate) enum Piece {
 }
 
 /// How many integers there are: of a point, or of a rectangle.
-fn integers_at<'s, 'a>(
-    tokens: &'s [Token<'a>],
-) -> Result<Option<(u32, &'s [Token<'a>])>, ReadError>
+fn integers_at<'s, 'a>(tokens: &'s [Token<'a>]) -> Result<Option<(u32, &'s [Token<'a>])>, ReadError>
     ensures { IfOk result (λ found. IfSome found (λ x. SpellsIntegers x.0 tokens.now x.1.now)) }
 {
     if let Some(rest) = after_word(b"point", tokens) {

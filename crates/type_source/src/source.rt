@@ -96,7 +96,11 @@ mod tests {
         (b"STR ", b"\x02Hi", 1),
         (b"TEXT", b"Read me", 1),
         (b"vers", b"\x07\x01\x80\x00\x00\x00\x037.1\x037.1", 7),
-        (b"ALRT", b"\x00\x28\x00\x28\x00\xa0\x01\x90\x00\x80\x44\x44", 18),
+        (
+            b"ALRT",
+            b"\x00\x28\x00\x28\x00\xa0\x01\x90\x00\x80\x44\x44",
+            18,
+        ),
         (b"FREF", b"APPL\x00\x00\x00", 3),
         (b"SIZE", b"\x58\x80\x00\x06\x00\x00\x00\x04\x00\x00", 18),
         (b"PAT ", b"\xaa\x55\xaa\x55\xaa\x55\xaa\x55", 1),

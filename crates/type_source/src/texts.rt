@@ -77,7 +77,10 @@ fn ended_at<'s, 'a>(
         }
         None => {
             let rest = mark_at(Mark::Semicolon, after)?;
-            Ok((DeclaredText::Field(TextForm::Ended, TextStyle::Letters), rest))
+            Ok((
+                DeclaredText::Field(TextForm::Ended, TextStyle::Letters),
+                rest,
+            ))
         }
     }
 }

@@ -64,7 +64,9 @@ pub(crate) fn after_name<'s, 'a>(tokens: &'s [Token<'a>]) -> Option<(&'a [u8], &
 }
 
 /// A name, and the tokens after it.
-pub(crate) fn name_at<'s, 'a>(tokens: &'s [Token<'a>]) -> Result<(&'a [u8], &'s [Token<'a>]), ReadError>
+pub(crate) fn name_at<'s, 'a>(
+    tokens: &'s [Token<'a>],
+) -> Result<(&'a [u8], &'s [Token<'a>]), ReadError>
     ensures { IfOk result (λ x. StartsName x.0.now tokens.now x.1.now) }
 {
     match after_name(tokens) {
@@ -74,7 +76,9 @@ pub(crate) fn name_at<'s, 'a>(tokens: &'s [Token<'a>]) -> Result<(&'a [u8], &'s 
 }
 
 /// A number, and the tokens after it.
-pub(crate) fn number_at<'s, 'a>(tokens: &'s [Token<'a>]) -> Result<(u32, &'s [Token<'a>]), ReadError>
+pub(crate) fn number_at<'s, 'a>(
+    tokens: &'s [Token<'a>],
+) -> Result<(u32, &'s [Token<'a>]), ReadError>
     ensures { IfOk result (λ x. tokens.now ≡ kinds.Number x.0 ∷ x.1.now) }
 {
     match tokens.split_first() {
