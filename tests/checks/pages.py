@@ -26,7 +26,7 @@ LINES = {
     "docs/DESIGN.md": 202,
     "docs/DIFFERENCES.md": 88,
     "docs/EMULATORS.md": 125,
-    "docs/FILES.md": 147,
+    "docs/FILES.md": 149,
     "docs/FORMAT.md": 78,
     "docs/SCRIPT.md": 266,
     "docs/THEOREM.md": 195,
