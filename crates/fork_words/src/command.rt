@@ -235,6 +235,8 @@ const WORDS: &[Word] = &[
         "Shows letters that aren't ASCII as \\xHH, and not as the characters that they are in MacRoman"),
     word!("ls" "info" "check", "json", Form::Long("json"), Values::Flag;
         "One line of JSON for each file"),
+    word!("ls", "recursive", Form::Short('R', "recursive"), Values::Flag, rival: Some("json");
+        "Of a disk image or a folder in it: all that is below, and not only what is directly in it"),
     word!("ls", "paths", Form::Long("paths"), Values::Flag, rival: Some("json");
         "Each line begins with the file's name, also that of one file"),
     word!("ls", "sha256", Form::Long("sha256"), Values::Flag, rival: Some("types");

@@ -4,14 +4,13 @@ use crate::contents::{Contents, Place};
 use crate::files::Files;
 use crate::item::Info;
 use crate::volume::VolumeFiles;
-use hfs_volume::name::Name;
 use image_paths::ImagePath;
 use mfs_volume::volume::MfsVolume;
 use std::alloc::{AllocError, AllocFailed, Global};
 use thiserror::Error;
-use volume_names::find_thing;
+use volume_names::folders::Folders;
 use volume_names::letters::{Rule, is_same_text};
-use volume_names::things::Thing;
+use volume_names::{find_thing, folders_by_id};
 
 /// What a path names.
 #[derive(Clone, Copy, Debug, PartialEq, Eq)]
@@ -63,48 +62,6 @@ impl<T: Drop> From<AllocFailed<T>> for NotFound {
     }
 }
 
-/// The most bytes of a name in an HFS volume.
-const LONGEST: usize = 31;
-
-/// The names of a path up to the first that an HFS volume can't have.
-fn hfs_names(alloc: Global, names: &[Vec<u8>]) -> Result<Vec<Name>, AllocError> {
-    let mut path = Vec::new(alloc);
-    for name in names {
-        if name.len() > LONGEST {
-            return Ok(path);
-        }
-        path.push(Name::from_bytes(name))?;
-    }
-    Ok(path)
-}
-
-/// How many names of a path lead to a folder or a file, one after another.
-fn leading(things: &[Thing], path: &[Name]) -> usize {
-    for count in 0..path.len() {
-        if find_thing(things, &path[..count + 1]).is_none() {
-            return count;
-        }
-    }
-    path.len()
-}
-
-/// Which thing a path names in an HFS volume, or how many of its names lead to one.
-fn find_hfs(
-    alloc: Global,
-    things: &[Thing],
-    names: &[Vec<u8>],
-) -> Result<Result<usize, usize>, AllocError> {
-    let path = hfs_names(alloc, names)?;
-    let count = leading(things, &path);
-    if count < names.len() {
-        return Ok(Err(count));
-    }
-    match find_thing(things, &path) {
-        Some(thing) => Ok(Ok(thing)),
-        None => Ok(Err(0)),
-    }
-}
-
 /// The first file of an MFS volume with a name that is the same by a rule.
 fn find_by(rule: Rule, volume: &MfsVolume, name: &[u8]) -> Option<usize> {
     volume
@@ -113,31 +70,52 @@ fn find_by(rule: Rule, volume: &MfsVolume, name: &[u8]) -> Option<usize> {
         .position(|file| is_same_text(rule, file.name_bytes(), name))
 }
 
-/// Which file a path of one name or more names in an MFS volume, or how many of its names lead to one.
-fn find_mfs(volume: &MfsVolume, names: &[Vec<u8>]) -> Result<usize, usize> {
-    let [name, others @ ..] = names else {
-        return Err(0);
+/// Which file a path names in an MFS volume, which has no folders.
+fn find_mfs(volume: &MfsVolume, names: &[Vec<u8>]) -> Option<usize> {
+    let [name] = names else {
+        return None;
     };
-    let found = match find_by(Rule::Bytes, volume, name) {
+    match find_by(Rule::Bytes, volume, name) {
         Some(file) => Some(file),
         None => find_by(Rule::Letters, volume, name),
-    };
-    match found {
-        Some(file) if others.is_empty() => Ok(file),
-        Some(_) => Err(1),
-        None => Err(0),
     }
 }
 
-/// Which thing a path of one name or more names in a volume, or how many of its names lead to one.
-fn find_thing_in(
-    alloc: Global,
-    files: &Files,
-    names: &[Vec<u8>],
-) -> Result<Result<usize, usize>, AllocError> {
+/// The folders of a volume; an MFS volume has none.
+pub(crate) fn folders_of(alloc: Global, files: &Files) -> Result<Folders, AllocError> {
     match files {
-        Files::Hfs(_, things) => find_hfs(alloc, things, names),
-        Files::Mfs(volume) => Ok(find_mfs(volume, names)),
+        Files::Hfs(volume, _) => folders_by_id(alloc, &volume.entries),
+        Files::Mfs(_) => Ok(Folders::new(alloc)),
+    }
+}
+
+/// Which thing a path names in a volume with these folders.
+fn find_thing_in(folders: &Folders, files: &Files, names: &[Vec<u8>]) -> Option<usize> {
+    match files {
+        Files::Hfs(_, things) => find_thing(folders, things, names),
+        Files::Mfs(volume) => find_mfs(volume, names),
+    }
+}
+
+/// How many names of a path, one at least, lead to a thing and each one before to another.
+fn leading(folders: &Folders, files: &Files, names: &[Vec<u8>]) -> usize {
+    for count in 1..names.len() {
+        if find_thing_in(folders, files, &names[..count]).is_none() {
+            return count - 1;
+        }
+    }
+    names.len().saturating_sub(1)
+}
+
+/// What a thing of a volume of this number is.
+fn found_at(number: usize, volume: &VolumeFiles, thing: usize) -> Found {
+    let place = Place {
+        volume: number,
+        thing,
+    };
+    match volume.info(thing) {
+        Some(Info::Folder(_)) => Found::Folder(place),
+        Some(Info::File(_)) | None => Found::File(place),
     }
 }
 
@@ -152,17 +130,13 @@ fn find_in(
     if names.is_empty() {
         return Ok(Found::Volume(number));
     }
-    let thing = match find_thing_in(alloc, &volume.files, names)? {
-        Ok(thing) => thing,
-        Err(count) => return Err(NotFound::Missing(before.saturating_add(count).saturating_add(1))),
-    };
-    let place = Place {
-        volume: number,
-        thing,
-    };
-    match volume.info(thing) {
-        Some(Info::Folder(_)) => Ok(Found::Folder(place)),
-        Some(Info::File(_)) | None => Ok(Found::File(place)),
+    let folders = folders_of(alloc, &volume.files)?;
+    match find_thing_in(&folders, &volume.files, names) {
+        Some(thing) => Ok(found_at(number, volume, thing)),
+        None => {
+            let count = leading(&folders, &volume.files, names);
+            Err(NotFound::Missing(before.saturating_add(count).saturating_add(1)))
+        }
     }
 }
 

@@ -3,10 +3,10 @@
 ghost use Rattle.file_acts.specs.Acts.{ReadsNothing, ReadsOnly, ReadsThese};
 ghost use Rattle.std.specs.Prelude.{◌≡◌, ◌≤◌, if◌then◌else◌, IfOk};
 
+use crate::images::described;
 use crate::several::{higher, note_archive, write_lines};
 use file_acts::acts::{Acts, write_text};
 use file_acts::host::Host;
-use file_acts::input::read;
 use file_acts::message::{CANT_GO_ON, DONE, NO_FORK, Problem, finish};
 use file_acts::parts::list_by_parts;
 use fork_disk::World;
@@ -14,6 +14,7 @@ use fork_report::{
     Bytes, Digests, Form, InsideNote, Refusal, Report, Told, refused_line, report_on,
 };
 use fork_words::asked::Reporting;
+use image_acts::read;
 use std::alloc::AllocError;
 
 /// Reports on each of these files, and says why of some nothing is reported. The result is the highest status of them.
@@ -70,14 +71,17 @@ fn report_file<W: World>(
         return match list_by_parts::<W>(host, file, kinds.as_slice(), acts) {
             Some(Ok(line)) => Ok(Told::whole(line)),
             Some(Err(_)) => Err(Problem::HostFull),
-            None => report_whole(host, report, file, acts),
+            None => report_whole::<W>(host, report, file, acts),
         };
     }
-    report_whole(host, report, file, acts)
+    if let Some(told) = described::<W>(host, report, file, acts)? {
+        return Ok(told);
+    }
+    report_whole::<W>(host, report, file, acts)
 }
 
 /// The same of a file of which all bytes are read.
-fn report_whole(
+fn report_whole<W: World>(
     host: &Host<'_>,
     report: &Report,
     file: &str,
@@ -85,7 +89,7 @@ fn report_whole(
 ) -> Result<Told, Problem>
     ensures quiet { ReadsOnly file.now acts.old.events acts.new.events }
 {
-    let bytes = read(host, file, acts)?;
+    let bytes = read::<W>(host, file, acts)?;
     match report_on(host.alloc(), report, file, &bytes) {
         Ok(told) => Ok(told),
         Err(refusal) => Err(Problem::of_refusal(host.alloc(), refusal, &bytes)),

@@ -6,12 +6,13 @@ ghost use Rattle.std.specs.Prelude.{◌≡◌, IfOk, true};
 
 use file_acts::acts::{Acts, write_text};
 use file_acts::host::Host;
-use file_acts::input::read;
 use file_acts::message::{DONE, Problem};
 use fork_list::letters::Letters;
 use fork_report::{ContainerDamage, ForkSalvaged, salvage, salvage_data, salvage_list};
 use fork_saves::save::save_to;
+use fork_disk::Unknown;
 use fork_words::asked::{Salvage, Salvaging};
+use image_acts::read;
 use path_text::FileName;
 
 /// Lists what can be read of a file, or writes it to another. The result is the exit status.
@@ -29,7 +30,7 @@ pub fn salvage_file(host: &Host<'_>, asked: Salvaging<'_>, acts: &mut Acts) -> R
 fn salvaged(host: &Host<'_>, asked: Salvaging<'_>, acts: &mut Acts) -> Result<(), Problem>
     ensures quiet { only_lists asked.entry.what ≡ true → ReadsOnly asked.entry.file.now acts.old.events acts.new.events }
 {
-    let bytes = read(host, asked.file, acts)?;
+    let bytes = read::<Unknown>(host, asked.file, acts)?;
     match asked.what {
         Salvage::List(letters) => write_salvaged(host, asked.file, letters, &bytes, acts),
         Salvage::Fork(output) => save_salvaged(host, asked.file, &bytes, output, acts),

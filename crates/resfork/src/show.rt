@@ -3,11 +3,11 @@
 ghost use Rattle.file_acts.specs.Acts.{ReadsOnly, ReadsThese};
 ghost use Rattle.std.specs.Prelude.{◌≡◌, ◌≤◌, IfOk, is_none, true};
 
+use crate::images::print_images;
 use crate::several::{higher, note_archive, write_lines};
 use file_acts::acts::{Acts, print};
 use file_acts::found::refused_as;
 use file_acts::host::Host;
-use file_acts::input::read;
 use file_acts::message::{CANT_GO_ON, DONE, Problem, finish};
 use file_acts::parts::answer_by_parts;
 use fork_answer::Failure;
@@ -17,6 +17,7 @@ use fork_disk::World;
 use fork_report::archive_inside;
 use fork_saves::save::save_to;
 use fork_words::asked::Showing;
+use image_acts::read;
 use std::io::IsTerminal;
 
 /// Shows something of each of these files, and says why some aren't shown. The result is the highest status of them.
@@ -76,6 +77,9 @@ fn print_list<W: World>(
 ) -> Result<(), Problem>
     ensures quiet { ReadsOnly file.now acts.old.events acts.new.events }
 {
+    if print_images::<W>(host, asked, file, acts)? {
+        return Ok(());
+    }
     let answered = answer_file::<W>(host, &asked.request, file, acts)?;
     if answered.text.is_empty() {
         note_inside(host, file, &answered);
@@ -136,12 +140,12 @@ fn answer_file<W: World>(
     match answer_by_parts::<W, Vec<u8>>(host, request, file, &mut text, acts) {
         Some(Ok(())) => Ok(Answered { text, bytes: None }),
         Some(Err(failure)) => Err(unanswered(host, request, failure, &[])),
-        None => answer_whole(host, request, file, acts),
+        None => answer_whole::<W>(host, request, file, acts),
     }
 }
 
 /// The same of a file of which all bytes are read.
-fn answer_whole(
+fn answer_whole<W: World>(
     host: &Host<'_>,
     request: &Request,
     file: &str,
@@ -149,7 +153,7 @@ fn answer_whole(
 ) -> Result<Answered, Problem>
     ensures quiet { ReadsOnly file.now acts.old.events acts.new.events }
 {
-    let bytes = read(host, file, acts)?;
+    let bytes = read::<W>(host, file, acts)?;
     let mut text = Vec::new(host.alloc());
     match answer(host.alloc(), request, &bytes, &mut text) {
         Ok(()) => Ok(Answered {
