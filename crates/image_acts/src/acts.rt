@@ -1,6 +1,5 @@
 //! Images are opened and read, each act noted.
 
-use crate::opened::{NotOpened, NotRead, Opened, open_image, open_path, read_path};
 use crate::problem::{of_opening, of_place, of_reading};
 use crate::word::{ImagePlace, image_named, place_named};
 use file_acts::acts::{Acts, note_parts};
@@ -12,8 +11,10 @@ use fork_disk::{HostFile, World};
 use fork_list::letters::Letters;
 use image_files::StillFile;
 use image_files::contents::Contents;
-use image_files::found::Found;
+use image_files::found::{Found, NotFound};
 use image_files::lines::{Depth, Listing, image_lines};
+use image_open::opened::{NotOpened, Opened};
+use image_open::{open_image, open_path, read_path};
 use std::alloc::AllocError;
 use std::fs;
 
@@ -77,7 +78,7 @@ fn open_place<W: World>(
     }
 }
 
-/// What was opened.
+/// What was opened, which is there.
 fn some_opened<D>(
     opened: (D, Result<Opened, NotOpened>),
 ) -> (D, Result<Option<Opened>, NotOpened>) {
@@ -107,6 +108,11 @@ pub struct ImageList {
 }
 
 impl ImageList {
+    /// How many lines it has.
+    pub fn len(&self) -> usize {
+        self.listing.len()
+    }
+
     /// The next lines; none after the last one.
     pub fn next_lines(&mut self, host: &Host<'_>) -> Result<String, AllocError> {
         self.listing.next_lines(host.alloc(), &self.contents)
@@ -154,7 +160,8 @@ pub fn describe_image<W: World>(
     };
     match opened.found {
         Ok(Found::File(_) | Found::Folder(_)) => return Ok(None),
-        Ok(Found::Image | Found::Volume(_)) | Err(_) => {}
+        Ok(Found::Image | Found::Volume(_)) | Err(NotFound::Refused(_)) => {}
+        Err(_) => return Err(of_place(host.alloc(), &opened)),
     }
     let text = image_lines(host.alloc(), Letters::Roman, &opened.contents)?;
     let is_damaged = opened.contents.volumes.iter().any(|placed| placed.found.is_err());
@@ -162,9 +169,12 @@ pub fn describe_image<W: World>(
 }
 
 /// Refuses a word that names a place in an image, where something would be written.
-pub fn check_outside(host: &Host<'_>, word: &str, acts: &mut Acts) -> Result<(), Problem> {
-    match place_named(host, word, acts) {
-        Some(_) => Err(Problem::InImage),
-        None => Ok(()),
+pub fn check_outside<W: World>(host: &Host<'_>, word: &str, acts: &mut Acts) -> Result<(), Problem> {
+    let Some(place) = place_named(host, word, acts) else {
+        return Ok(());
+    };
+    match open_place::<W>(host, place.image, place, acts) {
+        Ok(None) => Ok(()),
+        _ => Err(Problem::InImage),
     }
 }

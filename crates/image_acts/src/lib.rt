@@ -3,9 +3,7 @@
 #![tactic(auto)]
 
 mod acts;
-mod near;
-pub mod opened;
-pub mod problem;
+mod problem;
 mod word;
 
-pub use acts::{ImageList, check_outside, describe_image, list_image, read};
+pub use acts::{Described, ImageList, check_outside, describe_image, list_image, read};

@@ -1,7 +1,5 @@
 //! Why something isn't read of an image, as what is in the way.
 
-use crate::near::missing_text;
-use crate::opened::{NotOpened, NotRead, Opened};
 use disk_image::fault::OpenFault;
 use file_acts::input;
 use file_acts::message::Problem;
@@ -10,6 +8,8 @@ use image_files::PathFault;
 use image_files::found::{Found, NotFound};
 use image_files::message::{FileText, ImageText, VolumeText};
 use image_files::refusal::FileRefusal;
+use image_open::missing_text;
+use image_open::opened::{NotOpened, NotRead, Opened};
 use std::alloc::{AllocError, Global};
 use std::io;
 use std::io::ErrorKind;

@@ -164,7 +164,7 @@ fn has_name(placed: &PlacedVolume, name: &[u8]) -> bool {
 
 /// The folders and files that are in what was found, in the order of the volume; of a file, itself. What isn't read has
 /// none.
-pub(crate) fn places_in(
+pub fn places_in(
     alloc: Global,
     contents: &Contents,
     found: Found,
@@ -376,6 +376,11 @@ impl Listing {
             folders,
             done: 0,
         })
+    }
+
+    /// How many lines it has.
+    pub fn len(&self) -> usize {
+        self.places.len()
     }
 
     /// The next lines; none after the last one.

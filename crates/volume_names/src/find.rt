@@ -16,9 +16,13 @@ fn has_path(rule: Rule, folders: &Folders, thing: &Entry, path: &[Vec<u8>]) -> b
     let [others @ .., name] = path else {
         return false;
     };
-    (thing.is_folder() || thing.is_file())
-        && is_same_text(rule, thing.name.as_bytes(), name)
-        && leads_to(rule, folders, thing.parent, others)
+    if !thing.is_folder() && !thing.is_file() {
+        return false;
+    }
+    if !is_same_text(rule, thing.name.as_bytes(), name) {
+        return false;
+    }
+    leads_to(rule, folders, thing.parent, others)
 }
 
 /// The first thing whose path is the same by a rule.

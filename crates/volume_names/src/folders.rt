@@ -62,22 +62,19 @@ pub(crate) fn leads_to(rule: Rule, folders: &Folders, id: u32, path: &[Vec<u8>])
     ensures { (entries : List Entry) → HasFolders folders.now entries → result ≡ has_texts rule (map items_of path.now) (path_of entries id) }
 {
     let mut below = id;
-    let mut left = path;
+    let mut left = path.len();
     for step in 0..MOST_FOLDERS {
         if below == ROOT {
-            return left.is_empty();
+            return left == 0;
         }
         let Some(folder) = folders.get(&below) else {
             return false;
         };
-        let [others @ .., name] = left else {
-            return false;
-        };
-        if !is_same_text(rule, folder.name.as_bytes(), name) {
+        if left == 0 || !is_same_text(rule, folder.name.as_bytes(), &path[left - 1]) {
             return false;
         }
         below = folder.parent;
-        left = others;
+        left -= 1;
     }
     false
 }

@@ -1,6 +1,6 @@
 //! Folders and files with their paths.
 
-ghost use Rattle.std.specs.Prelude.{◌≡◌, List, IfOk, MatchOption, option_map, Some, None};
+ghost use Rattle.std.specs.Prelude.{◌≡◌, List, IfOk, is_some, option_map};
 ghost use Rattle.hfs_volume.specs.declared.entry.Entry.{Entry};
 ghost use Rattle.volume_names.specs.Paths.{HasFolders};
 ghost use Rattle.volume_names.specs.Things.{path_of_thing, things_of};
@@ -30,6 +30,14 @@ pub fn path_of_thing(
     Ok(Some(path))
 }
 
+/// Whether a record is of a folder or a file that has a path.
+fn is_thing(alloc: Global, folders: &Folders, entry: &Entry) -> Result<bool, AllocError>
+    ensures { (entries : List Entry) → HasFolders folders.now entries →
+        IfOk result (λ is. is ≡ is_some (path_of_thing entries entry.now)) }
+{
+    Ok(path_of_thing(alloc, folders, entry)?.is_some())
+}
+
 /// The folders and files of a volume with these records that have a path, in the order of the catalog. The only error is that
 /// the host has no memory.
 pub fn list_things(alloc: Global, entries: &[Entry]) -> Result<Vec<Entry>, AllocError>
@@ -38,7 +46,7 @@ pub fn list_things(alloc: Global, entries: &[Entry]) -> Result<Vec<Entry>, Alloc
     let folders = folders_by_id(alloc, entries)?;
     let mut things = Vec::new(alloc);
     for entry in entries {
-        if path_of_thing(alloc, &folders, entry)?.is_some() {
+        if is_thing(alloc, &folders, entry)? {
             things.push(*entry)?;
         }
     }
