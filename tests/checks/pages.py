@@ -26,7 +26,7 @@ LINES = {
     "docs/DESIGN.md": 198,
     "docs/DIFFERENCES.md": 88,
     "docs/EMULATORS.md": 100,
-    "docs/FILES.md": 147,
+    "docs/FILES.md": 160,
     "docs/FORMAT.md": 78,
     "docs/SCRIPT.md": 266,
     "docs/THEOREM.md": 145,

@@ -1,3 +1,4 @@
 pub mod Firsts
 pub mod Listed
 pub mod Upwards
+pub mod Texts

@@ -1,0 +1,57 @@
+-- A path and the texts of its names, from the last of them on.
+use Rattle.std.proofs.Common.{◌≡◌, ℕ, zero, suc, ◌+◌, ◌<◌, ◌≤◌, ◌==◌, ◌&&◌, Bool, true, false, List, [], ◌∷◌, ◌++◌, length, take, get_or, map, Option, None, Some, refl, sym, ap, ◌∙◌, arith}
+use Rattle.std.specs.Cmp.Lexicographic.{pointwise}
+use Rattle.std.specs.Global.{Vec}
+use Rattle.std.proofs.lemmas.List.{map-append, take_more}
+use Rattle.std.proofs.lemmas.Bool.{ne_eqb}
+use Rattle.hfs_volume.specs.declared.name.Name.{Name}
+use Rattle.hfs_volume.specs.Names.{name_bytes}
+use Rattle.volume_names.specs.Letters.{is_same_text}
+use Rattle.volume_names.specs.Paths.{has_texts, items_of, with_name}
+use Rattle.volume_names.specs.declared.letters.Rule.{Rule}
+
+and_false : (b : Bool) → (b && false) ≡ false
+and_false true = refl
+and_false false = refl
+
+swapped : (a b c : Bool) → (a && (b && c)) ≡ (b && (a && c))
+swapped true b c = refl
+swapped false b c = sym (and_false b)
+
+module _ {A B : Type 0} (same : A → B → Bool) (x : A) (y : B) where
+  not_longer : (ys : List B) → pointwise same [] (ys ++ y ∷ []) ≡ false
+  not_longer [] = refl
+  not_longer (z ∷ zs) = refl
+
+  not_shorter : (xs : List A) → pointwise same (xs ++ x ∷ []) [] ≡ false
+  not_shorter [] = refl
+  not_shorter (z ∷ zs) = refl
+
+  -- the last pair, and those before it
+  last_pair : (xs : List A) (ys : List B) → pointwise same (xs ++ x ∷ []) (ys ++ y ∷ []) ≡ (same x y && pointwise same xs ys)
+  last_pair [] [] = refl
+  last_pair [] (b ∷ ys) = ap (λ (r : Bool). same x b && r) (not_longer ys) ∙ and_false (same x b) ∙ sym (and_false (same x y))
+  last_pair (a ∷ xs) [] = ap (λ (r : Bool). same a y && r) (not_shorter xs) ∙ and_false (same a y) ∙ sym (and_false (same x y))
+  last_pair (a ∷ xs) (b ∷ ys) = ap (λ (r : Bool). same a b && r) (last_pair xs ys) ∙ swapped (same a b) (same x y) (pointwise same xs ys)
+
+module _ (rule : Rule) where
+  -- a folder with one more name, and one more text
+  pub more_texts : (texts : List (Vec ℕ)) (left : ℕ) (d : Vec ℕ) → left < length texts → (name : Name) (path : Option (List Name))
+      → has_texts rule (map items_of (take (left + 1) texts)) (with_name name path)
+      ≡ (is_same_text rule (name_bytes name) (get_or texts left d).items && has_texts rule (map items_of (take left texts)) path)
+  more_texts texts left d at name None = sym (and_false (is_same_text rule (name_bytes name) (get_or texts left d).items))
+  more_texts texts left d at name (Some path) =
+      ap (λ (xs : List (Vec ℕ)). has_texts rule (map items_of xs) (Some (path ++ name ∷ []))) (take_more texts left d at)
+      ∙ ap (λ (xs : List (List ℕ)). has_texts rule xs (Some (path ++ name ∷ []))) (map-append items_of (take left texts) (get_or texts left d ∷ []))
+      ∙ last_pair (λ (own : Name) (text : List ℕ). is_same_text rule (name_bytes own) text) name (get_or texts left d).items path (map items_of (take left texts))
+
+  -- no texts
+  pub no_texts : (name : Name) (path : Option (List Name)) → has_texts rule [] (with_name name path) ≡ false
+  no_texts name None = refl
+  no_texts name (Some path) = not_shorter (λ (own : Name) (text : List ℕ). is_same_text rule (name_bytes own) text) name [] path
+
+  -- the root has no names
+  pub root_texts : (texts : List (Vec ℕ)) (left : ℕ) → left ≤ length texts → (left == 0) ≡ has_texts rule (map items_of (take left texts)) (Some [])
+  root_texts texts zero few = refl
+  root_texts [] (suc left) few = absurd (omega arith)
+  root_texts (text ∷ texts) (suc left) few = ne_eqb (suc left) 0 (λ e. absurd (omega (arith, e)))
