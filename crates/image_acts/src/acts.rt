@@ -1,5 +1,9 @@
 //! Images are opened and read, each act noted.
 
+ghost use Rattle.file_acts.specs.Acts.{ReadsOnly};
+ghost use Rattle.file_acts.specs.Saved.{ShowsSaved};
+ghost use Rattle.image_acts.specs.Words.{ReadsWord};
+
 use crate::problem::{of_opening, of_place, of_reading};
 use crate::word::{ImagePlace, image_named, place_named};
 use file_acts::acts::{Acts, note_parts};
@@ -27,7 +31,10 @@ fn open_file<W: World>(host: &Host<'_>, path: &str) -> Result<StillFile<W>, Prob
 }
 
 /// Notes the calls that were made of an image.
-fn note_image<W: World>(acts: &mut Acts, image: &str, disk: StillFile<W>) {
+fn note_image<W: World>(acts: &mut Acts, image: &str, disk: StillFile<W>)
+    ensures quiet { ReadsOnly image.now acts.old.events acts.new.events }
+    ensures seen { ShowsSaved acts.old.events acts.new.events }
+{
     let store = PlainStore {
         disk: disk.into_file(),
     };
@@ -39,7 +46,10 @@ fn read_place<W: World>(
     host: &Host<'_>,
     place: ImagePlace<'_>,
     acts: &mut Acts,
-) -> Result<Vec<u8>, Problem> {
+) -> Result<Vec<u8>, Problem>
+    ensures quiet { ReadsOnly place.image.now acts.old.events acts.new.events }
+    ensures seen { ShowsSaved acts.old.events acts.new.events }
+{
     let disk = open_file::<W>(host, place.image)?;
     let (disk, read) = read_path(host.alloc(), disk, place.path, host.limit);
     note_image(acts, place.image, disk);
@@ -51,7 +61,10 @@ fn read_place<W: World>(
 
 /// The bytes of the file of this name, or of the standard input, which `-` is; or, where there is no such file and the word is
 /// `IMAGE:PATH`, the file of this path in the image as the bytes of a MacBinary file.
-pub fn read<W: World>(host: &Host<'_>, word: &str, acts: &mut Acts) -> Result<Vec<u8>, Problem> {
+pub fn read<W: World>(host: &Host<'_>, word: &str, acts: &mut Acts) -> Result<Vec<u8>, Problem>
+    ensures quiet { ReadsWord word.now acts.old.events acts.new.events }
+    ensures seen { ShowsSaved acts.old.events acts.new.events }
+{
     match place_named(host, word, acts) {
         Some(place) => read_place::<W>(host, place, acts),
         None => input::read(host, word, acts),
@@ -64,7 +77,10 @@ fn open_place<W: World>(
     word: &str,
     place: ImagePlace<'_>,
     acts: &mut Acts,
-) -> Result<Option<Opened>, Problem> {
+) -> Result<Option<Opened>, Problem>
+    ensures quiet { ReadsOnly place.image.now acts.old.events acts.new.events }
+    ensures seen { ShowsSaved acts.old.events acts.new.events }
+{
     let disk = open_file::<W>(host, place.image)?;
     let (disk, opened) = if word == place.image {
         open_image(host.alloc(), disk)
@@ -93,7 +109,10 @@ fn opened_at<W: World>(
     host: &Host<'_>,
     word: &str,
     acts: &mut Acts,
-) -> Result<Option<Opened>, Problem> {
+) -> Result<Option<Opened>, Problem>
+    ensures quiet { ReadsWord word.now acts.old.events acts.new.events }
+    ensures seen { ShowsSaved acts.old.events acts.new.events }
+{
     match image_named(host, word, acts) {
         Some(place) => open_place::<W>(host, word, place, acts),
         None => Ok(None),
@@ -126,7 +145,10 @@ pub fn list_image<W: World>(
     letters: Letters,
     depth: Depth,
     acts: &mut Acts,
-) -> Result<Option<ImageList>, Problem> {
+) -> Result<Option<ImageList>, Problem>
+    ensures quiet { ReadsWord word.now acts.old.events acts.new.events }
+    ensures seen { ShowsSaved acts.old.events acts.new.events }
+{
     let Some(opened) = opened_at::<W>(host, word, acts)? else {
         return Ok(None);
     };
@@ -154,7 +176,10 @@ pub fn describe_image<W: World>(
     host: &Host<'_>,
     word: &str,
     acts: &mut Acts,
-) -> Result<Option<Described>, Problem> {
+) -> Result<Option<Described>, Problem>
+    ensures quiet { ReadsWord word.now acts.old.events acts.new.events }
+    ensures seen { ShowsSaved acts.old.events acts.new.events }
+{
     let Some(opened) = opened_at::<W>(host, word, acts)? else {
         return Ok(None);
     };
@@ -169,12 +194,16 @@ pub fn describe_image<W: World>(
 }
 
 /// Refuses a word that names a place in an image, where something would be written.
-pub fn check_outside<W: World>(host: &Host<'_>, word: &str, acts: &mut Acts) -> Result<(), Problem> {
+pub fn check_outside<W: World>(host: &Host<'_>, word: &str, acts: &mut Acts) -> Result<(), Problem>
+    ensures quiet { ReadsWord word.now acts.old.events acts.new.events }
+    ensures seen { ShowsSaved acts.old.events acts.new.events }
+{
     let Some(place) = place_named(host, word, acts) else {
         return Ok(());
     };
     match open_place::<W>(host, place.image, place, acts) {
+        Ok(Some(_)) => Err(Problem::InImage),
         Ok(None) => Ok(()),
-        _ => Err(Problem::InImage),
+        Err(problem) => Err(problem),
     }
 }

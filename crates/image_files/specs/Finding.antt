@@ -1,13 +1,16 @@
 -- Which volume, folder or file a path names.
-use Rattle.std.specs.Prelude.{◌≡◌, ⊤, ◌<◌, ◌≤◌, ℕ, ◌+◌, ◌==◌, ◌&&◌, Bool, true, false, List, [], ◌∷◌, length, map, take, position, Option, None, Some, IsSome, Result, Ok, Err}
+use Rattle.std.specs.Prelude.{◌≡◌, ⊤, ◌<◌, ◌≤◌, ℕ, ◌+◌, ◌-◌, ◌*◌, ◌==◌, ◌&&◌, nat_lt, if◌then◌else◌, Bool, true, false, fold, is_some, List, [], ◌∷◌, length, map, take, position, Option, None, Some, IsSome, Result, Ok, Err}
+use Rattle.std.specs.BTreeMap.{BTreeMap}
 use Rattle.std.specs.Global.{Vec}
+use Rattle.std.specs.List.{list_all}
+use Rattle.hfs_volume.specs.declared.entry.Entry.{Entry}
 use Rattle.hfs_volume.specs.Names.{name_bytes as hfs_bytes}
 use Rattle.image_paths.specs.declared.path.ImagePath.{ImagePath}
 use Rattle.mfs_volume.specs.Directory.{name_bytes as mfs_bytes}
 use Rattle.mfs_volume.specs.declared.directory.MfsFile.{MfsFile}
 use Rattle.mfs_volume.specs.declared.volume.MfsVolume.{MfsVolume}
 use Rattle.volume_names.specs.Letters.{is_same_text}
-use Rattle.volume_names.specs.Paths.{items_of}
+use Rattle.volume_names.specs.Paths.{HasFolders, items_of}
 use Rattle.volume_names.specs.Things.{place_of, place_or}
 use Rattle.volume_names.specs.declared.letters.Rule.{Rule}
 use Rattle.volume_names.specs.declared.letters.Rule.TheVariants.{Bytes, Letters}
@@ -41,6 +44,11 @@ file_named volume (name ∷ other ∷ rest) = None
 abbrev pub thing_named : Files → List (List ℕ) → Option ℕ
 thing_named (files.Hfs volume things) names = place_of volume.entries.items names things.items
 thing_named (files.Mfs volume) names = file_named volume names
+
+-- the folders of a volume
+abbrev pub AreFolders : BTreeMap ℕ Entry → Files → Type 0
+AreFolders folders (files.Hfs volume things) = HasFolders folders volume.entries.items
+AreFolders folders (files.Mfs volume) = ⊤
 
 -- A path names nothing, and this is the first of its names with which it doesn't: how many are before it.
 pub record IsMissing (files : Files) (names : List (List ℕ)) (count : ℕ) : Type 0 where
@@ -76,7 +84,56 @@ abbrev pub has_name : Rule → List ℕ → Result VolumeFiles VolumeRefusal →
 has_name rule name (Ok volume) = is_same_text rule (hfs_bytes (volume_name volume.files)) name
 has_name rule name (Err refusal) = false
 
--- what the digits of a text are after a `#`, where there are one to five and nothing else
-abbrev pub with_digit : ℕ → List ℕ → Option ℕ
-with_digit number [] = Some number
-with_digit number (digit ∷ rest) = if is_digit digit then with_digit (10 * number + (digit - 48)) rest else None
+-- the number that digits are, where there are one to five and nothing else
+abbrev pub is_digit : ℕ → Bool
+is_digit byte = nat_lt 47 byte && nat_lt byte 58
+
+abbrev pub with_digit : ℕ → ℕ → ℕ
+with_digit number digit = 10 * number + (digit - 48)
+
+abbrev pub number_of : List ℕ → Option ℕ
+number_of text =
+    if nat_lt 0 (length text) && nat_lt (length text) 6 && list_all is_digit text then Some (fold with_digit 0 text) else None
+
+-- the first volume of a partition of this number
+abbrev pub volume_numbered : List PlacedVolume → Option ℕ → Option ℕ
+volume_numbered volumes None = None
+volume_numbered volumes (Some number) = position (λ placed. placed.part == number) volumes
+
+-- the first volume that has a name by a rule
+abbrev pub volume_by : Rule → List PlacedVolume → List ℕ → Option ℕ
+volume_by rule volumes name = position (λ placed. has_name rule name placed.found) volumes
+
+abbrev pub volume_called : List PlacedVolume → List ℕ → Option ℕ
+volume_called volumes name = place_or (volume_by Bytes volumes name) (volume_by Letters volumes name)
+
+-- the volume that a name is of: `#` and the number of a partition; else the name of a volume
+abbrev pub volume_named : List PlacedVolume → List ℕ → Option ℕ
+volume_named volumes [] = volume_called volumes []
+volume_named volumes (first ∷ digits) =
+    if (first == 35) && is_some (number_of digits) then volume_numbered volumes (number_of digits) else volume_called volumes (first ∷ digits)
+
+-- what names lead to after the one that is a volume's
+abbrev pub FindsNamed : Contents → Option ℕ → List (List ℕ) → Result Found NotFound → Type 0
+FindsNamed contents None others result = result ≡ Err (why.Missing 1)
+FindsNamed contents (Some number) others result = FindsBelow number (volume_at contents number) 1 others result
+
+-- the same of an image that has one volume or not: of one with several the first name is a volume's
+abbrev pub FindsBy : Bool → Contents → List (List ℕ) → Result Found NotFound → Type 0
+FindsBy true contents names result = FindsBelow 0 (volume_at contents 0) 0 names result
+FindsBy false contents [] result = result ≡ Ok found.Image
+FindsBy false contents (first ∷ others) result = FindsNamed contents (volume_named contents.volumes.items first) others result
+
+abbrev pub FindsNames : Contents → List (List ℕ) → Result Found NotFound → Type 0
+FindsNames contents names result = FindsBy (length contents.volumes.items == 1) contents names result
+
+-- a file isn't what is asked for where that is a folder
+abbrev pub if_folder : Bool → Result Found NotFound → Result Found NotFound
+if_folder true (Ok (found.File place)) = Err why.NotFolder
+if_folder is_folder result = result
+
+-- what a path names in an image, or why nothing
+pub record Finds (contents : Contents) (path : ImagePath) (result : Result Found NotFound) : Type 0 where
+  pub named : Result Found NotFound
+  pub names : FindsNames contents (map items_of path.names.items) named
+  pub folder : result ≡ if_folder path.is_folder named

@@ -1,5 +1,10 @@
 //! Which volume, folder or file a path names.
 
+ghost use Rattle.std.specs.Prelude.{◌≡◌, ◌+◌, ◌<◌, ◌^◌, [], None, length, map, position, IfOk};
+ghost use Rattle.volume_names.specs.Paths.{items_of};
+ghost use Rattle.image_files.specs.Finding.{AreFolders, Finds, FindsBelow, FindsIn, FindsNames, IsMissing, file_named, found_at, is_called, number_of, thing_named, volume_by, volume_named};
+ghost use Rattle.image_files.specs.FilesRead.{volume_at};
+
 use crate::contents::{Contents, Place};
 use crate::files::Files;
 use crate::item::Info;
@@ -63,7 +68,9 @@ impl<T: Drop> From<AllocFailed<T>> for NotFound {
 }
 
 /// The first file of an MFS volume with a name that is the same by a rule.
-fn find_by(rule: Rule, volume: &MfsVolume, name: &[u8]) -> Option<usize> {
+fn find_by(rule: Rule, volume: &MfsVolume, name: &[u8]) -> Option<usize>
+    ensures { result ≡ position (is_called rule name.now) volume.now.files.items }
+{
     volume
         .files
         .iter()
@@ -71,7 +78,9 @@ fn find_by(rule: Rule, volume: &MfsVolume, name: &[u8]) -> Option<usize> {
 }
 
 /// Which file a path names in an MFS volume, which has no folders.
-fn find_mfs(volume: &MfsVolume, names: &[Vec<u8>]) -> Option<usize> {
+fn find_mfs(volume: &MfsVolume, names: &[Vec<u8>]) -> Option<usize>
+    ensures { result ≡ file_named volume.now (map items_of names.now) }
+{
     let [name] = names else {
         return None;
     };
@@ -82,7 +91,9 @@ fn find_mfs(volume: &MfsVolume, names: &[Vec<u8>]) -> Option<usize> {
 }
 
 /// The folders of a volume; an MFS volume has none.
-pub(crate) fn folders_of(alloc: Global, files: &Files) -> Result<Folders, AllocError> {
+pub(crate) fn folders_of(alloc: Global, files: &Files) -> Result<Folders, AllocError>
+    ensures { IfOk result (λ folders. AreFolders folders files.now) }
+{
     match files {
         Files::Hfs(volume, _) => folders_by_id(alloc, &volume.entries),
         Files::Mfs(_) => Ok(Folders::new(alloc)),
@@ -90,15 +101,23 @@ pub(crate) fn folders_of(alloc: Global, files: &Files) -> Result<Folders, AllocE
 }
 
 /// Which thing a path names in a volume with these folders.
-fn find_thing_in(folders: &Folders, files: &Files, names: &[Vec<u8>]) -> Option<usize> {
+fn find_thing_in(folders: &Folders, files: &Files, names: &[Vec<u8>]) -> Option<usize>
+    requires { AreFolders folders.now files.now }
+    ensures { result ≡ thing_named files.now (map items_of names.now) }
+{
     match files {
         Files::Hfs(_, things) => find_thing(folders, things, names),
         Files::Mfs(volume) => find_mfs(volume, names),
     }
 }
 
-/// How many names of a path, one at least, lead to a thing and each one before to another.
-fn leading(folders: &Folders, files: &Files, names: &[Vec<u8>]) -> usize {
+/// How many names are before the first one with which a path names nothing, which names nothing as a whole.
+fn leading(folders: &Folders, files: &Files, names: &[Vec<u8>]) -> usize
+    requires folders { AreFolders folders.now files.now }
+    requires some { 0 < length names.now }
+    requires missing { thing_named files.now (map items_of names.now) ≡ None }
+    ensures { IsMissing files.now (map items_of names.now) result }
+{
     for count in 1..names.len() {
         if find_thing_in(folders, files, &names[..count]).is_none() {
             return count - 1;
@@ -108,7 +127,9 @@ fn leading(folders: &Folders, files: &Files, names: &[Vec<u8>]) -> usize {
 }
 
 /// What a thing of a volume of this number is.
-fn found_at(number: usize, volume: &VolumeFiles, thing: usize) -> Found {
+fn found_at(number: usize, volume: &VolumeFiles, thing: usize) -> Found
+    ensures { result ≡ found_at number volume.now.files thing }
+{
     let place = Place {
         volume: number,
         thing,
@@ -126,7 +147,10 @@ fn find_in(
     volume: &VolumeFiles,
     before: usize,
     names: &[Vec<u8>],
-) -> Result<Found, NotFound> {
+) -> Result<Found, NotFound>
+    requires { before + length names.now < 2 ^ 64 }
+    ensures { FindsIn number volume.now.files before (map items_of names.now) result }
+{
     if names.is_empty() {
         return Ok(Found::Volume(number));
     }
@@ -135,13 +159,15 @@ fn find_in(
         Some(thing) => Ok(found_at(number, volume, thing)),
         None => {
             let count = leading(&folders, &volume.files, names);
-            Err(NotFound::Missing(before.saturating_add(count).saturating_add(1)))
+            Err(NotFound::Missing(before + count + 1))
         }
     }
 }
 
 /// The number that the digits of a text are, if it has one to five and nothing else.
-fn number_of(text: &[u8]) -> Option<u32> {
+fn number_of(text: &[u8]) -> Option<u32>
+    ensures { result ≡ number_of text.now }
+{
     if text.is_empty() || text.len() > 5 {
         return None;
     }
@@ -159,7 +185,9 @@ fn number_of(text: &[u8]) -> Option<u32> {
 
 impl Contents {
     /// The first volume whose name is the same by a rule.
-    fn volume_by(&self, rule: Rule, name: &[u8]) -> Option<usize> {
+    fn volume_by(&self, rule: Rule, name: &[u8]) -> Option<usize>
+        ensures { result ≡ volume_by rule self.now.volumes.items name.now }
+    {
         self.volumes.iter().position(|placed| match &placed.found {
             Ok(volume) => is_same_text(rule, volume.name().as_bytes(), name),
             Err(_) => false,
@@ -167,7 +195,9 @@ impl Contents {
     }
 
     /// The volume that a name is of: `#` and the number of a partition, or the name of a volume.
-    fn volume_of(&self, name: &[u8]) -> Option<usize> {
+    fn volume_of(&self, name: &[u8]) -> Option<usize>
+        ensures { result ≡ volume_named self.now.volumes.items name.now }
+    {
         if let [b'#', digits @ ..] = name {
             if let Some(number) = number_of(digits) {
                 return self
@@ -189,18 +219,20 @@ impl Contents {
         number: usize,
         before: usize,
         names: &[Vec<u8>],
-    ) -> Result<Found, NotFound> {
-        let Some(placed) = self.volumes.get(number) else {
-            return Err(NotFound::Missing(before));
-        };
-        match &placed.found {
-            Ok(volume) => find_in(alloc, number, volume, before, names),
-            Err(_) => Err(NotFound::Refused(number)),
+    ) -> Result<Found, NotFound>
+        requires { before + length names.now < 2 ^ 64 }
+        ensures { FindsBelow number (volume_at self.now number) before (map items_of names.now) result }
+    {
+        match self.volume_at(number) {
+            Some(volume) => find_in(alloc, number, volume, before, names),
+            None => Err(NotFound::Refused(number)),
         }
     }
 
     /// What the names of a path lead to.
-    fn find_names(&self, alloc: Global, names: &[Vec<u8>]) -> Result<Found, NotFound> {
+    fn find_names(&self, alloc: Global, names: &[Vec<u8>]) -> Result<Found, NotFound>
+        ensures { FindsNames self.now (map items_of names.now) result }
+    {
         if self.volumes.len() == 1 {
             return self.find_below(alloc, 0, 0, names);
         }
@@ -217,7 +249,9 @@ impl Contents {
 /// What a path names. Names are compared byte by byte; where nothing has just these, as the File Manager compares them,
 /// where case doesn't count. Where an image has several volumes, the first name is a volume's, or `#` and the number of its
 /// partition.
-pub fn find(alloc: Global, contents: &Contents, path: &ImagePath) -> Result<Found, NotFound> {
+pub fn find(alloc: Global, contents: &Contents, path: &ImagePath) -> Result<Found, NotFound>
+    ensures { Finds contents.now path.now result }
+{
     match contents.find_names(alloc, &path.names)? {
         Found::File(_) if path.is_folder => Err(NotFound::NotFolder),
         found => Ok(found),

@@ -1,5 +1,9 @@
 //! What a path names in an image.
 
+ghost use Rattle.std.specs.Prelude.{◌≡◌, length};
+ghost use Rattle.hfs_tree.specs.Reads.{HasBytes, Learns};
+ghost use Rattle.image_open.specs.Opening.{OpensAt, OpensImage, ReadsFile, StatesFile, is_other};
+
 use disk_image::fault::{ImageFault, OpenFault};
 use disk_image::known::Known;
 use fork_disk::disk::ForkDisk;
@@ -33,7 +37,9 @@ pub fn open_path<D: StillDisk>(
     alloc: Global,
     disk: D,
     text: &str,
-) -> (D, Result<Opened, NotOpened>) {
+) -> (D, Result<Opened, NotOpened>)
+    ensures { D.is_honest result.0 → Learns D.ForkDisk disk result.0 (OpensAt text.now result.1) }
+{
     let path = match ImagePath::parse(alloc, text) {
         Ok(path) => path,
         Err(fault) => return (disk, Err(NotOpened::Path(fault))),
@@ -69,7 +75,10 @@ fn file_of<D: StillDisk>(
     disk: D,
     opened: Opened,
     limit: u64,
-) -> (D, Result<Vec<u8>, NotRead>) {
+) -> (D, Result<Vec<u8>, NotRead>)
+    requires { HasBytes D.ForkDisk disk (λ file. opened.contents.size ≡ length file) }
+    ensures { D.is_honest result.0 → Learns D.ForkDisk disk result.0 (StatesFile opened limit result.1) }
+{
     let Ok(Found::File(place)) = opened.found else {
         return (disk, Err(NotRead::NoFile(opened)));
     };
@@ -85,7 +94,9 @@ pub fn read_path<D: StillDisk>(
     disk: D,
     text: &str,
     limit: u64,
-) -> (D, Result<Vec<u8>, NotRead>) {
+) -> (D, Result<Vec<u8>, NotRead>)
+    ensures { D.is_honest result.0 → Learns D.ForkDisk disk result.0 (ReadsFile text.now limit result.1) }
+{
     match open_path(alloc, disk, text) {
         (disk, Ok(opened)) => file_of(alloc, disk, opened, limit),
         (disk, Err(fault)) => (disk, Err(NotRead::NotOpened(fault))),
@@ -96,7 +107,9 @@ pub fn read_path<D: StillDisk>(
 const FRONT: u64 = 4096;
 
 /// Whether a file of so many bytes which begins so is a resource fork or a container.
-fn is_other(size: u64, front: &[u8]) -> bool {
+fn is_other(size: u64, front: &[u8]) -> bool
+    ensures { result ≡ is_other size front.now }
+{
     is_raw(size as usize, front) || kind_of(front).is_known()
 }
 
@@ -115,7 +128,9 @@ fn holds_fork<D: ForkDisk>(alloc: Global, disk: &mut D) -> bool {
 pub fn open_image<D: StillDisk>(
     alloc: Global,
     disk: D,
-) -> (D, Result<Option<Opened>, NotOpened>) {
+) -> (D, Result<Option<Opened>, NotOpened>)
+    ensures { D.is_honest result.0 → Learns D.ForkDisk disk result.0 (OpensImage result.1) }
+{
     let mut disk = disk;
     if holds_fork(alloc, &mut disk) {
         return (disk, Ok(None));

@@ -1,5 +1,8 @@
 //! Disk images: lists of what is in them, and what they are.
 
+ghost use Rattle.file_acts.specs.Acts.{ReadsNothing};
+ghost use Rattle.image_acts.specs.Words.{ReadsWord};
+
 use crate::several::write_lines;
 use file_acts::acts::Acts;
 use file_acts::host::Host;
@@ -27,7 +30,9 @@ fn print_listing(
     file: &str,
     listing: ImageList,
     acts: &mut Acts,
-) -> Result<(), Problem> {
+) -> Result<(), Problem>
+    ensures quiet { ReadsNothing acts.old.events acts.new.events }
+{
     let mut listing = listing;
     let mut files = asked.files.as_slice();
     for _ in 0..listing.len() {
@@ -47,7 +52,9 @@ pub fn print_images<W: World>(
     asked: &Showing<'_>,
     file: &str,
     acts: &mut Acts,
-) -> Result<bool, Problem> {
+) -> Result<bool, Problem>
+    ensures quiet { ReadsWord file.now acts.old.events acts.new.events }
+{
     let Request::List(Choice { letters, kinds }) = &asked.request else {
         return Ok(false);
     };
@@ -69,7 +76,9 @@ pub fn described<W: World>(
     report: &Report,
     file: &str,
     acts: &mut Acts,
-) -> Result<Option<Told>, Problem> {
+) -> Result<Option<Told>, Problem>
+    ensures quiet { ReadsWord file.now acts.old.events acts.new.events }
+{
     let is_check = match report {
         Report::Info {
             form: Form::Text,

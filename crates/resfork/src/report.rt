@@ -1,6 +1,7 @@
 //! Reports on files: their resources, their faults, and what is known of them.
 
-ghost use Rattle.file_acts.specs.Acts.{ReadsNothing, ReadsOnly, ReadsThese};
+ghost use Rattle.file_acts.specs.Acts.{ReadsNothing};
+ghost use Rattle.image_acts.specs.Words.{ReadsWord, ReadsWords};
 ghost use Rattle.std.specs.Prelude.{◌≡◌, ◌≤◌, if◌then◌else◌, IfOk};
 
 use crate::images::described;
@@ -20,7 +21,7 @@ use std::alloc::AllocError;
 /// Reports on each of these files, and says why of some nothing is reported. The result is the highest status of them.
 pub fn report_all<W: World>(host: &Host<'_>, asked: &Reporting<'_>, acts: &mut Acts) -> u8
     ensures few { result ≤ CANT_GO_ON }
-    ensures quiet { ReadsThese asked.now.files.items acts.old.events acts.new.events }
+    ensures quiet { ReadsWords asked.now.files.items acts.old.events acts.new.events }
 {
     let files = asked.files.as_slice();
     let mut status = DONE;
@@ -39,7 +40,7 @@ fn report_one<W: World>(
     acts: &mut Acts,
 ) -> Result<u8, Problem>
     ensures few { IfOk result (λ status. status ≤ NO_FORK) }
-    ensures quiet { ReadsOnly file.now acts.old.events acts.new.events }
+    ensures quiet { ReadsWord file.now acts.old.events acts.new.events }
 {
     match report_file::<W>(host, &asked.report, file, acts) {
         Ok(told) => print_told(host, asked, file, &told, acts),
@@ -60,7 +61,7 @@ fn report_file<W: World>(
     file: &str,
     acts: &mut Acts,
 ) -> Result<Told, Problem>
-    ensures quiet { ReadsOnly file.now acts.old.events acts.new.events }
+    ensures quiet { ReadsWord file.now acts.old.events acts.new.events }
 {
     if let Report::List {
         kinds,
@@ -87,7 +88,7 @@ fn report_whole<W: World>(
     file: &str,
     acts: &mut Acts,
 ) -> Result<Told, Problem>
-    ensures quiet { ReadsOnly file.now acts.old.events acts.new.events }
+    ensures quiet { ReadsWord file.now acts.old.events acts.new.events }
 {
     let bytes = read::<W>(host, file, acts)?;
     match report_on(host.alloc(), report, file, &bytes) {

@@ -1,6 +1,7 @@
 //! What can be read of a damaged file, listed or written to another.
 
-ghost use Rattle.file_acts.specs.Acts.{ReadsNothing, ReadsOnly};
+ghost use Rattle.file_acts.specs.Acts.{ReadsNothing};
+ghost use Rattle.image_acts.specs.Words.{ReadsWord};
 ghost use Rattle.resfork.specs.Running.{only_lists};
 ghost use Rattle.std.specs.Prelude.{◌≡◌, IfOk, true};
 
@@ -18,7 +19,7 @@ use path_text::FileName;
 /// Lists what can be read of a file, or writes it to another. The result is the exit status.
 pub fn salvage_file(host: &Host<'_>, asked: Salvaging<'_>, acts: &mut Acts) -> Result<u8, Problem>
     ensures done { IfOk result (λ status. status ≡ DONE) }
-    ensures quiet { only_lists asked.entry.what ≡ true → ReadsOnly asked.entry.file.now acts.old.events acts.new.events }
+    ensures quiet { only_lists asked.entry.what ≡ true → ReadsWord asked.entry.file.now acts.old.events acts.new.events }
 {
     match salvaged(host, asked, acts) {
         Ok(()) => Ok(DONE),
@@ -28,7 +29,7 @@ pub fn salvage_file(host: &Host<'_>, asked: Salvaging<'_>, acts: &mut Acts) -> R
 
 /// Lists what can be read of a file, or writes it to another.
 fn salvaged(host: &Host<'_>, asked: Salvaging<'_>, acts: &mut Acts) -> Result<(), Problem>
-    ensures quiet { only_lists asked.entry.what ≡ true → ReadsOnly asked.entry.file.now acts.old.events acts.new.events }
+    ensures quiet { only_lists asked.entry.what ≡ true → ReadsWord asked.entry.file.now acts.old.events acts.new.events }
 {
     let bytes = read::<Unknown>(host, asked.file, acts)?;
     match asked.what {

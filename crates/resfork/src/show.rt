@@ -1,6 +1,6 @@
 //! What is shown of files: their lists, and their resources' bytes.
 
-ghost use Rattle.file_acts.specs.Acts.{ReadsOnly, ReadsThese};
+ghost use Rattle.image_acts.specs.Words.{ReadsWord, ReadsWords};
 ghost use Rattle.std.specs.Prelude.{◌≡◌, ◌≤◌, IfOk, is_none, true};
 
 use crate::images::print_images;
@@ -23,7 +23,7 @@ use std::io::IsTerminal;
 /// Shows something of each of these files, and says why some aren't shown. The result is the highest status of them.
 pub fn show_all<W: World>(host: &Host<'_>, asked: &Showing<'_>, acts: &mut Acts) -> u8
     ensures few { result ≤ CANT_GO_ON }
-    ensures quiet { is_none asked.now.output ≡ true → ReadsThese asked.now.files.items acts.old.events acts.new.events }
+    ensures quiet { is_none asked.now.output ≡ true → ReadsWords asked.now.files.items acts.old.events acts.new.events }
 {
     let files = asked.files.as_slice();
     let mut status = DONE;
@@ -42,7 +42,7 @@ fn show_file<W: World>(
     acts: &mut Acts,
 ) -> Result<u8, Problem>
     ensures done { IfOk result (λ status. status ≡ DONE) }
-    ensures quiet { is_none asked.now.output ≡ true → ReadsOnly file.now acts.old.events acts.new.events }
+    ensures quiet { is_none asked.now.output ≡ true → ReadsWord file.now acts.old.events acts.new.events }
 {
     match show::<W>(host, asked, file, acts) {
         Ok(()) => Ok(DONE),
@@ -57,7 +57,7 @@ fn show<W: World>(
     file: &str,
     acts: &mut Acts,
 ) -> Result<(), Problem>
-    ensures quiet { is_none asked.now.output ≡ true → ReadsOnly file.now acts.old.events acts.new.events }
+    ensures quiet { is_none asked.now.output ≡ true → ReadsWord file.now acts.old.events acts.new.events }
 {
     match asked.output {
         Some(output) => save_answer::<W>(host, &asked.request, file, output, acts),
@@ -75,7 +75,7 @@ fn print_list<W: World>(
     file: &str,
     acts: &mut Acts,
 ) -> Result<(), Problem>
-    ensures quiet { ReadsOnly file.now acts.old.events acts.new.events }
+    ensures quiet { ReadsWord file.now acts.old.events acts.new.events }
 {
     if print_images::<W>(host, asked, file, acts)? {
         return Ok(());
@@ -114,7 +114,7 @@ fn print_answer<W: World>(
     file: &str,
     acts: &mut Acts,
 ) -> Result<(), Problem>
-    ensures quiet { ReadsOnly file.now acts.old.events acts.new.events }
+    ensures quiet { ReadsWord file.now acts.old.events acts.new.events }
 {
     let answered = answer_file::<W>(host, request, file, acts)?;
     print(host, &answered.text, acts)
@@ -134,7 +134,7 @@ fn answer_file<W: World>(
     file: &str,
     acts: &mut Acts,
 ) -> Result<Answered, Problem>
-    ensures quiet { ReadsOnly file.now acts.old.events acts.new.events }
+    ensures quiet { ReadsWord file.now acts.old.events acts.new.events }
 {
     let mut text = Vec::new(host.alloc());
     match answer_by_parts::<W, Vec<u8>>(host, request, file, &mut text, acts) {
@@ -151,7 +151,7 @@ fn answer_whole<W: World>(
     file: &str,
     acts: &mut Acts,
 ) -> Result<Answered, Problem>
-    ensures quiet { ReadsOnly file.now acts.old.events acts.new.events }
+    ensures quiet { ReadsWord file.now acts.old.events acts.new.events }
 {
     let bytes = read::<W>(host, file, acts)?;
     let mut text = Vec::new(host.alloc());

@@ -1,6 +1,7 @@
 //! What is done with the table of a file's resource fork.
 
-ghost use Rattle.file_acts.specs.Acts.{ReadsNothing, ReadsOnly};
+ghost use Rattle.file_acts.specs.Acts.{ReadsNothing};
+ghost use Rattle.image_acts.specs.Words.{ReadsWord};
 ghost use Rattle.fork_list.specs.Listing.{absent_kind};
 ghost use Rattle.resfork.specs.Faults.{IsToldOfKinds};
 ghost use Rattle.std.specs.Prelude.{◌≡◌, IfOk};
@@ -40,7 +41,7 @@ pub fn use_table<U: TableUse>(
     acts: &mut Acts,
 ) -> Result<u8, Problem>
     ensures done { IfOk result (λ status. status ≡ DONE) }
-    ensures quiet { U.only_reads table_use.now → ReadsOnly file.now acts.old.events acts.new.events }
+    ensures quiet { U.only_reads table_use.now → ReadsWord file.now acts.old.events acts.new.events }
 {
     let bytes = read::<Unknown>(host, file, acts)?;
     use_table_in(host, &bytes, table_use, acts)

@@ -1,7 +1,8 @@
 //! What the commands do that change files, and those that compare them.
 
 ghost use Rattle.std.specs.Prelude.{◌≡◌, ◌≢◌, ◌≤◌, IfErr, IfOk, Ok, Err, option_map, true};
-ghost use Rattle.file_acts.specs.Acts.{ReadsBoth, ReadsNothing, ReadsOnly, WritesNothing};
+ghost use Rattle.file_acts.specs.Acts.{ReadsNothing, WritesNothing};
+ghost use Rattle.image_acts.specs.Words.{ReadsBothWords, ReadsWord};
 ghost use Rattle.resfork.specs.Faults.{file_at_fault};
 ghost use Rattle.file_acts.specs.Saved.{ShowsSaved};
 ghost use Rattle.fork_saves.specs.Saving.{EndsSaved};
@@ -12,6 +13,7 @@ use crate::rez::{Like, derez_file, pack_folder, rez_file};
 use file_acts::acts::{Acts, look_at, write_text};
 use file_acts::found::{fork_found, table_found};
 use file_acts::host::Host;
+use file_acts::input;
 use file_acts::message::{CANT_GO_ON, DONE, NOT_FOUND, Problem, finish};
 use fork_bytes::table::{Row, Table};
 use fork_change::{Choice, Differences, Refusal};
@@ -90,7 +92,7 @@ fn put<'a>(host: &Host<'_>, asked: Putting<'a>, acts: &mut Acts) -> Result<u8, F
     ensures seen { IsForFile asked.entry.target → ShowsSaved acts.old.events acts.new.events }
 {
     let input = asked.input.unwrap_or(INPUT);
-    let bytes = of_file(input, read::<Unknown>(host, input, acts))?;
+    let bytes = of_file(input, input::read(host, input, acts))?;
     of_file(asked.target.file, put_bytes(host, asked, &bytes, acts))
 }
 
@@ -212,7 +214,7 @@ fn convert_file(
 /// Writes what differs between two files. The result says whether something does.
 fn compare<'a>(host: &Host<'_>, asked: Comparison<'a>, acts: &mut Acts) -> Result<u8, Failed<'a>>
     ensures few { IfOk result (λ status. status ≤ NOT_FOUND) }
-    ensures quiet { ReadsBoth asked.entry.a.now asked.entry.b.now acts.old.events acts.new.events }
+    ensures quiet { ReadsBothWords asked.entry.a.now asked.entry.b.now acts.old.events acts.new.events }
 {
     let a = asked.a;
     let bytes = of_file(a, read::<Unknown>(host, a, acts))?;
@@ -229,7 +231,7 @@ fn compare_with(
     acts: &mut Acts,
 ) -> Result<u8, Problem>
     ensures few { IfOk result (λ status. status ≤ NOT_FOUND) }
-    ensures quiet { ReadsOnly asked.entry.b.now acts.old.events acts.new.events }
+    ensures quiet { ReadsWord asked.entry.b.now acts.old.events acts.new.events }
 {
     let bytes = read::<Unknown>(host, asked.b, acts)?;
     let found = fork_found(host, &bytes)?;

@@ -6,8 +6,11 @@ use Rattle.std.proofs.lemmas.List.{map-append, take_more}
 use Rattle.std.proofs.lemmas.Bool.{ne_eqb}
 use Rattle.hfs_volume.specs.declared.name.Name.{Name}
 use Rattle.hfs_volume.specs.Names.{name_bytes}
+use Rattle.std.specs.Prelude.{find}
+use Rattle.hfs_volume.specs.declared.entry.Entry.{Entry}
 use Rattle.volume_names.specs.Letters.{is_same_text}
-use Rattle.volume_names.specs.Paths.{has_texts, items_of, with_name}
+use Rattle.volume_names.specs.Paths.{has_texts, is_folder_with, items_of, path_within, with_name}
+use Rattle.volume_names.proofs.Upwards.{path_up}
 use Rattle.volume_names.specs.declared.letters.Rule.{Rule}
 
 and_false : (b : Bool) → (b && false) ≡ false
@@ -55,3 +58,12 @@ module _ (rule : Rule) where
   root_texts texts zero few = refl
   root_texts [] (suc left) few = absurd (omega arith)
   root_texts (text ∷ texts) (suc left) few = ne_eqb (suc left) 0 (λ e. absurd (omega (arith, e)))
+
+  -- the last of some texts is the name of a folder, and those before it are the path of the one that it is in
+  pub text_step : (texts : List (Vec ℕ)) (left last : ℕ) (d : Vec ℕ) → left ≡ last + 1 → last < length texts
+      → (entries : List Entry) (steps more id : ℕ) (folder : Entry) → steps ≡ suc more → (id == 2) ≡ false → find (is_folder_with id) entries ≡ Some folder
+      → has_texts rule (map items_of (take left texts)) (path_within steps entries id)
+      ≡ (is_same_text rule (name_bytes folder.name) (get_or texts last d).items && has_texts rule (map items_of (take last texts)) (path_within more entries folder.parent))
+  text_step texts left last d one at entries steps more id folder some other is = rw one
+      (ap (λ (o : Option (List Name)). has_texts rule (map items_of (take (last + 1) texts)) o) (path_up entries steps more id folder some other is)
+      ∙ more_texts texts last d at folder.name (path_within more entries folder.parent))

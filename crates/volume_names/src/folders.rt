@@ -70,11 +70,15 @@ pub(crate) fn leads_to(rule: Rule, folders: &Folders, id: u32, path: &[Vec<u8>])
         let Some(folder) = folders.get(&below) else {
             return false;
         };
-        if left == 0 || !is_same_text(rule, folder.name.as_bytes(), &path[left - 1]) {
+        if left == 0 {
+            return false;
+        }
+        let last = left - 1;
+        if !is_same_text(rule, folder.name.as_bytes(), &path[last]) {
             return false;
         }
         below = folder.parent;
-        left -= 1;
+        left = last;
     }
     false
 }
