@@ -10,7 +10,7 @@ import tempfile
 
 from checks.fork_questions import Difference
 from checks.forks import compare, run
-from checks.hostile_files import spent
+from checks.folders import spent
 from checks.shown import fork_of, must, write
 from model.fork import Row
 from model.messages import message
@@ -40,7 +40,7 @@ def shown(name):
     text = ""
     for byte in name:
         letter = bytes([byte]).decode("mac_roman")
-        text += {"/": ":", "\\": "\\\\"}.get(letter, letter if byte >= 32 and byte not in (127, 0xCA) else f"\\x{byte:02X}")
+        text += {"/": ":", "\\": "\\\\"}.get(letter, letter if byte >= 32 and byte != 127 else f"\\x{byte:02X}")
     return text
 
 
@@ -99,7 +99,7 @@ def try_image(program, path, image, items, front=""):
     """Compares the lists of an image and the forks of its files."""
     write(path, image)
     here = [line((one.name,), one, front) for one in items]
-    must(listed(program, [path]) == listed(program, [f"{path}:"]) == sorted(here) or front, f"{path}: its first list differs")
+    must(bool(front) or listed(program, [path]) == listed(program, [f"{path}:"]) == sorted(here), f"{path}: its first list differs")
     wanted = lines(items, front)
     got = [it for it in listed(program, ["-R", path]) if it in wanted or not front]
     must(got == wanted, f"{path}: its list differs: {[it for it in wanted if it not in got]} and {[it for it in got if it not in wanted]}")
@@ -165,16 +165,16 @@ def try_paths(program, path):
     write(colons, ONE)
     must(listed(program, [f"{colons}:Games"]) != [], "an image with a colon in its name isn't read")
     write(f"{path}.text", b"no image")
-    compare("a path in no image", run(program, ["ls", f"{path}.text:x"]), 4, b"", "there is no such file")
+    compare("a path in no image", run(program, ["ls", f"{path}.text:x"]), 4, b"", message("no file or image"))
 
 
 def changed(image, at, new):
     return image[:at] + new + image[at + len(new):]
 
 
-def find(image, name):
-    """Where the data of the record of a file or a folder are."""
-    at = image.index(bytes([len(name)]) + name, BLOCK * 4)
+def find(image, name, catalog):
+    """Where the data of the record of a file or a folder are, in a catalog at a place."""
+    at = image.index(bytes([len(name)]) + name, catalog)
     return at + 1 + len(name) + (1 + len(name) + 6) % 2
 
 
@@ -196,7 +196,7 @@ def try_damaged(program, path):
         write(path, image)
         compare(what, run(program, ["ls", path]), 3, b"", told)
         compare(what, run(program, ["get", f"{path}:Read me", "TEXT", "128"]), 3, b"", told)
-    outside = changed(ONE, find(ONE, b"Read me") + 86, struct.pack(">HH", 60000, 3))
+    outside = changed(ONE, find(ONE, b"Read me", catalog) + 86, struct.pack(">HH", 60000, 3))
     write(path, outside)
     must(listed(program, ["-R", path]) == lines(FILES), "a damaged fork hides files")
     compare("a damaged fork", run(program, ["get", f"{path}:Read me", "TEXT", "128"]), 3, b"", "its resource fork has blocks that the volume hasn't")

@@ -151,6 +151,7 @@ ROWS = {
     },
     # a file can't be read or written, something would be lost, or the host has no memory
     4: {
+        "no file or image": "there is no such file, nor a disk image before its colon",
         "unreadable": "can't be read: {why}",
         "irregular": "it is no regular file",
         "too long": "is longer than the limit of {count} bytes; --limit SIZE reads more",

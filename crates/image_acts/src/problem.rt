@@ -1,6 +1,7 @@
 //! Why something isn't read of an image, as what is in the way.
 
-use disk_image::fault::OpenFault;
+use disk_image::fault::{ImageFault, OpenFault};
+use disk_image::known::Known;
 use file_acts::input;
 use file_acts::message::Problem;
 use hfs_tree::fault::ReadFault;
@@ -47,10 +48,19 @@ fn of_image(alloc: Global, fault: OpenFault) -> Problem {
     }
 }
 
-/// Why an image isn't opened.
+/// That there is no file of a name, and no image before the colon in it.
+fn no_file() -> Problem {
+    Problem::Read(input::NotRead::Failed(io::Error::new(
+        ErrorKind::NotFound,
+        "there is no such file, nor a disk image before its colon",
+    )))
+}
+
+/// Why the image before the colon of a word isn't opened.
 pub fn of_opening(alloc: Global, fault: NotOpened) -> Problem {
     match fault {
         NotOpened::Path(fault) => of_path(alloc, fault),
+        NotOpened::Image(OpenFault::Image(ImageFault::Refused(Known::Other))) => no_file(),
         NotOpened::Image(fault) => of_image(alloc, fault),
     }
 }

@@ -20,8 +20,8 @@ module _ (entries things : List Entry) (i : ℕ) (d : Entry) (at : i < length en
 
   -- it is a thing
   pub a_thing : is ≡ true → things ++ get_or entries i d ∷ [] ≡ listed entries (take (i + 1) entries)
-  a_thing yes = ap (λ (b : Bool). things ++ cond b (get_or entries i d ∷ []) []) (sym yes) ∙ sym one_more
+  a_thing holds = ap (λ (b : Bool). things ++ cond b (get_or entries i d ∷ []) []) (sym holds) ∙ sym one_more
 
   -- or none
   pub no_thing : is ≡ false → things ≡ listed entries (take (i + 1) entries)
-  no_thing no = sym (append-nil things) ∙ ap (λ (b : Bool). things ++ cond b (get_or entries i d ∷ []) []) (sym no) ∙ sym one_more
+  no_thing fails = sym (append-nil things) ∙ ap (λ (b : Bool). things ++ cond b (get_or entries i d ∷ []) []) (sym fails) ∙ sym one_more

@@ -1,15 +1,18 @@
 -- A path and the texts of its names, from the last of them on.
-use Rattle.std.proofs.Common.{◌≡◌, ℕ, zero, suc, ◌+◌, ◌<◌, ◌≤◌, ◌==◌, ◌&&◌, Bool, true, false, List, [], ◌∷◌, ◌++◌, length, take, get_or, map, Option, None, Some, refl, sym, ap, ◌∙◌, arith}
+use Rattle.std.proofs.Common.{◌≡◌, ℕ, zero, suc, ◌+◌, ◌<◌, ◌≤◌, ◌==◌, ◌&&◌, Bool, true, false, List, [], ◌∷◌, ◌++◌, length, take, get_or, map, ◌-◌, Option, None, Some, refl, sym, ap, ◌∙◌, arith}
 use Rattle.std.specs.Cmp.Lexicographic.{pointwise}
 use Rattle.std.specs.Global.{Vec}
 use Rattle.std.proofs.lemmas.List.{map-append, take_more}
 use Rattle.std.proofs.lemmas.Bool.{ne_eqb}
 use Rattle.hfs_volume.specs.declared.name.Name.{Name}
 use Rattle.hfs_volume.specs.Names.{name_bytes}
-use Rattle.std.specs.Prelude.{find}
+use Rattle.std.specs.Prelude.{find, ◌||◌, if◌then◌else◌}
+use Rattle.std.proofs.Math.Seq.{take-length}
+use Rattle.hfs_volume.specs.Entries.{is_folder, is_file}
 use Rattle.hfs_volume.specs.declared.entry.Entry.{Entry}
 use Rattle.volume_names.specs.Letters.{is_same_text}
-use Rattle.volume_names.specs.Paths.{has_texts, is_folder_with, items_of, path_within, with_name}
+use Rattle.volume_names.specs.Paths.{has_texts, is_folder_with, items_of, path_of, path_within, with_name}
+use Rattle.volume_names.specs.Things.{has_path}
 use Rattle.volume_names.proofs.Upwards.{path_up}
 use Rattle.volume_names.specs.declared.letters.Rule.{Rule}
 
@@ -67,3 +70,25 @@ module _ (rule : Rule) where
   text_step texts left last d one at entries steps more id folder some other is = rw one
       (ap (λ (o : Option (List Name)). has_texts rule (map items_of (take (last + 1) texts)) o) (path_up entries steps more id folder some other is)
       ∙ more_texts texts last d at folder.name (path_within more entries folder.parent))
+
+  -- the last of some texts is the name of a thing, and those before it are the path of the folder that it is in
+  pub thing_texts : (texts : List (Vec ℕ)) (d : Vec ℕ) (entries : List Entry) (thing : Entry) → 1 ≤ length texts → (is_folder thing || is_file thing) ≡ true
+      → has_path rule entries (map items_of texts) thing
+      ≡ (is_same_text rule (name_bytes thing.name) (get_or texts (length texts - 1) d).items && has_texts rule (map items_of (take (length texts - 1) texts)) (path_of entries thing.parent))
+  thing_texts texts d entries thing some kind =
+      ap (λ (b : Bool). has_texts rule (map items_of texts) (if b then with_name thing.name (path_of entries thing.parent) else None)) kind
+      ∙ ap (λ (xs : List (Vec ℕ)). has_texts rule (map items_of xs) (with_name thing.name (path_of entries thing.parent))) (sym whole)
+      ∙ more_texts texts (length texts - 1) d (omega arith) thing.name (path_of entries thing.parent)
+    where
+      one : length texts - 1 + 1 ≡ length texts
+      one = omega arith
+      whole : take (length texts - 1 + 1) texts ≡ texts
+      whole = ap (λ (n : ℕ). take n texts) one ∙ take-length texts
+
+pub or_first : (a b : Bool) → a ≡ true → (a || b) ≡ true
+or_first true b is = refl
+or_first false b is = absurd cc
+
+pub or_second : (a b : Bool) → b ≡ true → (a || b) ≡ true
+or_second true b is = refl
+or_second false b is = is

@@ -29,9 +29,12 @@ fn has_path(rule: Rule, folders: &Folders, thing: &Entry, path: &[Vec<u8>]) -> b
 fn find_by(rule: Rule, folders: &Folders, things: &[Entry], path: &[Vec<u8>]) -> Option<usize>
     ensures { (entries : List Entry) → HasFolders folders.now entries → result ≡ position (has_path rule entries (map items_of path.now)) things.now }
 {
-    things
-        .iter()
-        .position(|thing| has_path(rule, folders, thing, path))
+    for (index, thing) in things.iter().enumerate() {
+        if has_path(rule, folders, thing, path) {
+            return Some(index);
+        }
+    }
+    None
 }
 
 /// Which of these things has this path in a volume with these folders: the first with just these names, else the first whose

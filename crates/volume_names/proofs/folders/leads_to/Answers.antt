@@ -12,7 +12,7 @@ use Rattle.volume_names.proofs.Upwards.{root_path, missing_path, path_up, deep_p
 use Rattle.volume_names.proofs.folders.leads_to.Goals as goal
 
 pub loop-step-init : goal.loop-step-init
-loop-step-init c = rw c.len.ensures (omega arith, λ entries has.
+loop-step-init c = (omega arith, λ entries has.
     ap (λ (xs : List (Vec ℕ)). has_texts c.args.rule (map items_of xs) (path_within 256 entries c.args.id)) (take-length c.args.path.now))
 
 pub returns-then-below-eq-ROOT : goal.returns-then-below-eq-ROOT
