@@ -45,8 +45,6 @@ STAYS = {
     "crates/zone_records/proofs/FreeWalk.antt: walked-none": "beside the other steps of the walk: its start",
     "crates/zone_records/proofs/OwnBytes.antt: part-of": "beside rest-of: the part before that rest",
     "crates/fork_saves/src/laws.rt: save_laws": "a theorem, which nothing calls",
-    "crates/image_files/src/lines.rt: image_lines": "for a program: the lines of `info`",
-    "crates/image_files/src/still.rt: into_file": "for a program: the file back",
     "crates/res_types/specs/Bits.antt: o": "an operand: the operator is defined there",
     "crates/res_types/src/texts.rt: with_text": "for a program: a text is set",
     "crates/script_tests/src/files.rt: run_over_files": "a theorem, which nothing calls",

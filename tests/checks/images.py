@@ -134,7 +134,7 @@ def try_commands(program, path):
     other = f"{path}.other"
     write(other, b"")
     compare("cp", run(program, ["cp", f"{path}:Read me", other]), 0, None, "")
-    compare("diff", run(program, ["diff", other, alone]), 0, b"", "")
+    must(run(program, ["ls", "--sha256", other]) == run(program, ["ls", "--sha256", alone]), "cp: other resources")
     compare("salvage", run(program, ["salvage", f"{path}:Read me", "--data", other]), 0, b"", "")
     with open(other, "rb") as file:
         must(file.read() == FILES[0].data, "salvage --data: other bytes")
