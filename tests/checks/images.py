@@ -10,11 +10,11 @@ import tempfile
 
 from checks.fork_questions import Difference
 from checks.forks import compare, run
-from checks.folders import spent
 from checks.shown import fork_of, must, write
+from measured import Measure, slowness
 from model.fork import Row
 from model.messages import message
-from model.volume import BLOCK, CHANGED, File, Folder, NotRead, Reader, day, disk_copy, disk_map, hfs, mfs
+from model.volume import BLOCK, CHANGED, File, Folder, NotRead, Reader, catalog_key, day, disk_copy, disk_map, extents_of, filled, hfs, mfs, text, tree
 
 FORK = fork_of([Row(b"TEXT", 128, b"Read me", 0, b"Hello"), Row(b"STR ", 1, None, 0, b"\x02Hi")])
 # names with letters that aren't ASCII, that parts of paths can't have, and of all lengths
@@ -29,8 +29,8 @@ FILES = [
 MANY = [Folder(b"Folder %d" % it, [File(b"File %d" % it, b"%d" % it)]) for it in range(60)]
 FLAT = [File(b"Read me", b"hello" * 300, FORK), File(b"9/41", b"", b"x" * 3000), File(b"a" * 63, b"5" * 2048, b"6")]
 ONE, TWO = hfs(b"One", FILES, blocks=200), hfs(b"Two", MANY, 1024)
-# what is on the standard error where an image can't be read, by the condition
-UNMAPPED = "none of its {count} partitions is a volume of HFS or MFS"
+# how many seconds a command may take, and how many times as many bytes as an image has
+SECONDS, MOST = 3.0, 12
 # bytes of a floppy disk
 FLOPPY = 819200
 
@@ -226,25 +226,28 @@ def try_changes(program, path):
 
 def hostile(count, depth=255):
     """A volume of so many folders, all as deep as a path can be."""
-    from model import volume
     rows = [(2 if it == 16 else it - 1, b"x" * 31, struct.pack(">BBHHIIII", 1, 0, 0, 1, it, 0, 0, 0)) for it in range(16, 16 + depth - 1)]
     rows += [(16 + depth - 2, b"%031d" % it, struct.pack(">BBHHIIII", 1, 0, 0, 0, 100000 + it, 0, 0, 0)) for it in range(count)]
-    nodes = volume.tree([(volume.catalog_key(parent, name), volume.filled(data, 70)) for parent, name, data in rows], 37)
+    nodes = tree([(catalog_key(parent, name), filled(data, 70)) for parent, name, data in rows], 37)
     start = 4
     size = 512 * (1 + len(nodes) // 65000)
     catalog = b"".join(nodes)
     blocks = -(-len(catalog) // size)
-    mdb = struct.pack(">HIIHHHHHIIHIH", 0x4244, 0, 0, 0x100, 0, 3, 0, blocks, size, size, start, 16, 0) + volume.text(b"Deep", 28)
-    mdb = volume.filled(mdb, 146) + struct.pack(">I", len(catalog)) + volume.extents_of([(0, blocks)])
-    return bytes(1024) + volume.filled(mdb, BLOCK) + bytes(BLOCK) + volume.filled(catalog, blocks * size) + bytes(2 * BLOCK)
+    mdb = struct.pack(">HIIHHHHHIIHIH", 0x4244, 0, 0, 0x100, 0, 3, 0, blocks, size, size, start, 16, 0) + text(b"Deep", 28)
+    mdb = filled(mdb, 146) + struct.pack(">I", len(catalog)) + extents_of([(0, blocks)])
+    return bytes(1024) + filled(mdb, BLOCK) + bytes(BLOCK) + filled(catalog, blocks * size) + bytes(2 * BLOCK)
 
 
 def try_hostile(program, path):
-    """Tries an image that says more than it holds."""
+    """Tries an image of which each of many folders is as deep as it can be: no path is kept."""
     image = hostile(100000)
     write(path, image)
-    for words in (["ls", path], ["info", path], ["get", f"{path}:x", "TEXT", "128"]):
-        spent(program, words, len(image))
+    with tempfile.TemporaryDirectory() as folder:
+        measure = Measure(folder)
+        for words in (["ls", path], ["info", path], ["get", f"{path}:x", "TEXT", "128"]):
+            took = measure.run([program, *words], 4 << 30)
+            must(took.seconds < SECONDS * slowness(), f"{words}: it took {took.seconds:.2f} s")
+            must(took.memory << 10 < MOST * len(image), f"{words}: it took {took.memory >> 10} MiB, where the image has {len(image) >> 20}")
 
 
 def main(program):
