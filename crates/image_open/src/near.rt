@@ -63,17 +63,18 @@ fn push_near(
     alloc: Global,
     text: &mut String,
     contents: &Contents,
-    parent: &ImagePath,
+    parent: Found,
     name: &[u8],
 ) -> Result<(), AllocError> {
-    let Ok(found) = find(alloc, contents, parent) else {
-        return Ok(());
-    };
-    match found {
+    let folder = path_text(alloc, Letters::Roman, contents, parent)?;
+    if !folder.is_empty() {
+        write!(text, " in {folder}")?;
+    }
+    match parent {
         Found::File(_) => write!(text, ", which is a file")?,
         Found::Image => write!(text, " among its volumes")?,
         Found::Volume(_) | Found::Folder(_) => {
-            let places = places_in(alloc, contents, found, Depth::Here)?;
+            let places = places_in(alloc, contents, parent, Depth::Here)?;
             push_alike(text, contents, &places, name)?;
         }
     }
@@ -90,12 +91,8 @@ pub fn missing_text(alloc: Global, opened: &Opened, number: usize) -> Result<Str
     };
     let shown = NameText::new(Letters::Roman, name);
     let mut text = format!(in alloc; "there is nothing named {shown}")?;
-    if let Some(Ok(found)) = Some(find(alloc, &opened.contents, &parent)) {
-        let folder = path_text(alloc, Letters::Roman, &opened.contents, found)?;
-        if !folder.is_empty() {
-            write!(text, " in {folder}")?;
-        }
+    if let Ok(found) = find(alloc, &opened.contents, &parent) {
+        push_near(alloc, &mut text, &opened.contents, found, name)?;
     }
-    push_near(alloc, &mut text, &opened.contents, &parent, name)?;
     Ok(text)
 }
