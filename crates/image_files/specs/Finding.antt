@@ -1,5 +1,5 @@
 -- Which volume, folder or file a path names.
-use Rattle.std.specs.Prelude.{◌≡◌, ⊤, ◌<◌, ◌≤◌, ℕ, ◌+◌, ◌-◌, ◌*◌, ◌==◌, ◌&&◌, nat_lt, if◌then◌else◌, Bool, true, false, fold, is_some, List, [], ◌∷◌, length, map, take, position, Option, None, Some, IsSome, Result, Ok, Err}
+use Rattle.std.specs.Prelude.{◌≡◌, ⊤, ◌<◌, ◌≤◌, ℕ, ◌+◌, ◌-◌, ◌*◌, ◌==◌, ◌&&◌, nat_lt, if◌then◌else◌, Bool, true, false, fold, is_some, List, [], ◌∷◌, length, map, take, position, Option, None, Some, Result, Ok, Err}
 use Rattle.std.specs.BTreeMap.{BTreeMap}
 use Rattle.std.specs.Global.{Vec}
 use Rattle.std.specs.List.{list_all}
@@ -55,7 +55,7 @@ pub record IsMissing (files : Files) (names : List (List ℕ)) (count : ℕ) : T
   pub whole : thing_named files names ≡ None
   pub some : count < length names
   pub here : thing_named files (take (count + 1) names) ≡ None
-  pub before : (k : ℕ) → 0 < k → k ≤ count → IsSome (thing_named files (take k names))
+  pub before : (k : ℕ) → 0 < k → k ≤ count → is_some (thing_named files (take k names)) ≡ true
 
 -- what a thing is: a folder, or else a file
 abbrev pub found_as : Place → Option Info → Found
