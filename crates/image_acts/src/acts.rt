@@ -189,7 +189,11 @@ pub fn describe_image<W: World>(
         Err(_) => return Err(of_place(host.alloc(), &opened)),
     }
     let text = image_lines(host.alloc(), Letters::Roman, &opened.contents)?;
-    let is_damaged = opened.contents.volumes.iter().any(|placed| placed.found.is_err());
+    let is_damaged = opened
+        .contents
+        .volumes
+        .iter()
+        .any(|placed| placed.found.is_err());
     Ok(Some(Described { text, is_damaged }))
 }
 

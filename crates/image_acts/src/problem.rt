@@ -17,10 +17,7 @@ use std::io::ErrorKind;
 
 /// That a device fails.
 fn device_failed() -> Problem {
-    Problem::Read(input::NotRead::Failed(io::Error::new(
-        ErrorKind::Other,
-        "the device failed",
-    )))
+    Problem::Read(input::NotRead::Failed(io::Error::new(ErrorKind::Other, "the device failed")))
 }
 
 /// That a text is no path.
@@ -98,9 +95,9 @@ fn of_found(alloc: Global, found: Found) -> Result<Problem, AllocError> {
         Found::Folder(_) => "a folder",
         Found::File(_) => "a file",
     };
-    Ok(Problem::NotInImage(
-        format!(in alloc; "it is {what}, and no file: resfork ls lists what is in it")?,
-    ))
+    Ok(Problem::NotInImage(format!(in alloc;
+        "it is {what}, and no file: resfork ls lists what is in it"
+    )?))
 }
 
 /// Why nothing is found at a path, or no file.

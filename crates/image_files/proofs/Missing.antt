@@ -1,12 +1,13 @@
 -- The first name with which a path names nothing.
-use Rattle.std.proofs.Common.{◌≡◌, ℕ, ◌+◌, ◌-◌, ◌<◌, ◌≤◌, Bool, true, false, List, length, map, take, Option, None, Some, sym, ap, ◌∙◌, refl, subst, arith}
+use Rattle.std.proofs.Common.{◌≡◌, ℕ, ◌+◌, ◌-◌, ◌<◌, ◌≤◌, ◌==◌, Bool, true, false, List, [], ◌∷◌, length, Ok, map, take, Option, None, Some, sym, ap, ◌∙◌, refl, subst, arith}
 use Rattle.std.specs.Prelude.{is_some}
 use Rattle.std.specs.Global.{Vec}
 use Rattle.std.proofs.Math.Seq.{take-length}
 use Rattle.std.proofs.lemmas.List.{length-map, take-map}
 use Rattle.volume_names.specs.Paths.{items_of}
 use Rattle.image_files.specs.declared.files.Files.{Files}
-use Rattle.image_files.specs.Finding.{IsMissing, thing_named}
+use Rattle.image_files.specs.declared.found.Found.{Found}
+use Rattle.image_files.specs.Finding.{FindsIn, IsMissing, found_at, thing_named}
 
 none_of : {T : Type 0} (o : Option T) → is_some o ≡ false → o ≡ None
 none_of (Some x) is = absurd cc
@@ -44,5 +45,12 @@ module _ (files : Files) (names : List (Vec ℕ)) where
     where
       many : last + 1 ≡ length (map items_of names)
       many = sym one ∙ sym (length-map names items_of)
+
       all : take (last + 1) (map items_of names) ≡ map items_of names
       all = ap (λ (n : ℕ). take n (map items_of names)) many ∙ take-length (map items_of names)
+
+-- a path of some names leads to a thing
+pub finds_thing : (number : ℕ) (files : Files) (before : ℕ) (names : List (Vec ℕ)) (empty : Bool) (thing : ℕ) (found : Found) → empty ≡ (length names == 0) → empty ≡ false
+    → thing_named files (map items_of names) ≡ Some thing → found ≡ found_at number files thing → FindsIn number files before (map items_of names) (Ok found)
+finds_thing number files before [] empty thing found is fails named at = absurd cc
+finds_thing number files before (name ∷ names) empty thing found is fails named at = (thing, named, at)

@@ -90,11 +90,7 @@ fn push_places(
 }
 
 /// The folders of a volume, where it is read.
-fn folders_in(
-    alloc: Global,
-    contents: &Contents,
-    number: usize,
-) -> Result<Folders, AllocError> {
+fn folders_in(alloc: Global, contents: &Contents, number: usize) -> Result<Folders, AllocError> {
     match contents.volume_at(number) {
         Some(volume) => folders_of(alloc, &volume.files),
         None => Ok(Folders::new(alloc)),
@@ -103,7 +99,12 @@ fn folders_in(
 
 impl Contents {
     /// The path of a folder or a file in its volume, of which these are the folders.
-    fn path_of(&self, alloc: Global, folders: &Folders, place: Place) -> Result<Vec<Name>, AllocError> {
+    fn path_of(
+        &self,
+        alloc: Global,
+        folders: &Folders,
+        place: Place,
+    ) -> Result<Vec<Name>, AllocError> {
         if let Some(
             VolumeFiles {
                 view: _,
@@ -404,10 +405,7 @@ impl Listing {
 fn counts(volume: &VolumeFiles) -> (usize, usize) {
     match &volume.files {
         Files::Hfs(_, things) => {
-            let folders = things
-                .iter()
-                .filter(|thing| thing.is_folder())
-                .count();
+            let folders = things.iter().filter(|thing| thing.is_folder()).count();
             (things.len() - folders, folders)
         }
         Files::Mfs(volume) => (volume.files.len(), 0),

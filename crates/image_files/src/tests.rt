@@ -196,7 +196,13 @@ fn lists_a_volume(rt: HostRuntime) -> Result<(), Fail> {
     let contents = contents?;
     let places = places_in(rt.alloc(), &contents, Found::Volume(0), Depth::Here)?;
     assert_eq!(rt; places.as_slice(), [FIRST].as_slice());
-    let mut listing = Listing::new(rt.alloc(), Letters::Roman, &contents, Found::Volume(0), Depth::Here)?;
+    let mut listing = Listing::new(
+        rt.alloc(),
+        Letters::Roman,
+        &contents,
+        Found::Volume(0),
+        Depth::Here,
+    )?;
     let line = listing.next_lines(rt.alloc(), &contents)?;
     assert_eq!(rt;
         line.as_str(),

@@ -33,11 +33,7 @@ pub enum NotOpened {
 }
 
 /// Opens an image, and looks for what a text names in it.
-pub fn open_path<D: StillDisk>(
-    alloc: Global,
-    disk: D,
-    text: &str,
-) -> (D, Result<Opened, NotOpened>)
+pub fn open_path<D: StillDisk>(alloc: Global, disk: D, text: &str) -> (D, Result<Opened, NotOpened>)
     ensures { D.is_honest result.0 → Learns D.ForkDisk disk result.0 (OpensAt text.now result.1) }
 {
     let path = match ImagePath::parse(alloc, text) {
@@ -83,7 +79,14 @@ fn file_of<D: StillDisk>(
         return (disk, Err(NotRead::NoFile(opened)));
     };
     let mut disk = disk;
-    let read = read_file(alloc, &mut disk, &opened.contents, place, Forks::Both, limit);
+    let read = read_file(
+        alloc,
+        &mut disk,
+        &opened.contents,
+        place,
+        Forks::Both,
+        limit,
+    );
     (disk, read.map_err(NotRead::Refused))
 }
 
@@ -125,10 +128,7 @@ fn holds_fork<D: ForkDisk>(alloc: Global, disk: &mut D) -> bool {
 }
 
 /// Opens what may be an image: none where it is a resource fork, a container, or isn't known as an image.
-pub fn open_image<D: StillDisk>(
-    alloc: Global,
-    disk: D,
-) -> (D, Result<Option<Opened>, NotOpened>)
+pub fn open_image<D: StillDisk>(alloc: Global, disk: D) -> (D, Result<Option<Opened>, NotOpened>)
     ensures { D.is_honest result.0 → Learns D.ForkDisk disk result.0 (OpensImage result.1) }
 {
     let mut disk = disk;

@@ -17,6 +17,7 @@ use file_acts::input;
 use file_acts::message::{CANT_GO_ON, DONE, NOT_FOUND, Problem, finish};
 use fork_bytes::table::{Row, Table};
 use fork_change::{Choice, Differences, Refusal};
+use fork_disk::Unknown;
 use fork_edit::difference::text_of;
 use fork_edit::edit::{Edit, second_of, unmet};
 use fork_edit::file::NotWritten;
@@ -24,8 +25,9 @@ use fork_report::{Form, difference_line};
 use fork_saves::change::{change_file, create_file};
 use fork_saves::convert::convert;
 use fork_words::INPUT;
-use fork_disk::Unknown;
-use fork_words::work::{Comparison, Conversion, Copying, Packing, Putting, Removing, Setting, Target, Work};
+use fork_words::work::{
+    Comparison, Conversion, Copying, Packing, Putting, Removing, Setting, Target, Work,
+};
 use image_acts::{check_outside, read};
 use mac_base::error::HostFull;
 use std::alloc::Global;
@@ -197,11 +199,7 @@ fn can_copy(host: &Host<'_>, chosen: &[Choice], rows: &[Row<'_>]) -> Result<(), 
 }
 
 /// Writes a file in another container.
-fn convert_file(
-    host: &Host<'_>,
-    asked: &Conversion<'_>,
-    acts: &mut Acts,
-) -> Result<u8, Problem>
+fn convert_file(host: &Host<'_>, asked: &Conversion<'_>, acts: &mut Acts) -> Result<u8, Problem>
     ensures done { IfOk result (λ status. status ≡ DONE) }
     ensures dry { asked.now.target.is_dry ≡ true → WritesNothing acts.old.events acts.new.events }
     ensures saved { IsForNew asked.now → IfOk result (λ _. EndsSaved acts.new.events) }

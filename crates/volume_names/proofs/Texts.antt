@@ -82,6 +82,7 @@ module _ (rule : Rule) where
     where
       one : length texts - 1 + 1 ≡ length texts
       one = omega arith
+
       whole : take (length texts - 1 + 1) texts ≡ texts
       whole = ap (λ (n : ℕ). take n texts) one ∙ take-length texts
 

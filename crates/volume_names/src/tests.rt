@@ -43,7 +43,11 @@ fn lists_things_with_paths(rt: HostRuntime) -> Result<(), Fail> {
     assert_eq!(rt; things.len(), 4);
     assert_eq!(rt; things[1].id(), 17);
     let path = path_of_thing(alloc, &folders, &things[3])?.ok_or("no path")?;
-    let names = [Name::from_bytes(b"Game"), Name::from_bytes(b"Sea\xCA"), Name::from_bytes(b"b\x8Fte")];
+    let names = [
+        Name::from_bytes(b"Game"),
+        Name::from_bytes(b"Sea\xCA"),
+        Name::from_bytes(b"b\x8Fte"),
+    ];
     assert_eq!(rt; path.as_slice(), names.as_slice());
     Ok(())
 }

@@ -10,7 +10,7 @@ pub returns-then-is_none : goal.returns-then-is_none
 returns-then-is_none c =
     let count = c.loop-count.count in
     missing_at c.args.files.now c.args.names.now count (count - 1) c.find_thing_in.result (omega (arith, c.loop-count.auto.count)) c.requires.missing (omega (arith, c.loop-count-test.true))
-      c.find_thing_in.ensures c.if-is_none.ensures c.loop-count.invariant
+    c.find_thing_in.ensures c.if-is_none.ensures c.loop-count.invariant
 
 pub loop-count-init : goal.loop-count-init
 loop-count-init c = λ k pos below. absurd (omega arith)
@@ -21,7 +21,7 @@ loop-count-preserved c = λ k pos below.
     let names = c.args.names.now in
     let count = c.loop-count.count in
     below_more (λ (j : ℕ). 0 < j → is_some (thing_named files (take j (map items_of names))) ≡ true) count (λ j under low. c.loop-count.invariant j low under)
-      (λ low. one_more files names count c.find_thing_in.result c.find_thing_in.ensures c.if-is_none.ensures) k below pos
+    (λ low. one_more files names count c.find_thing_in.result c.find_thing_in.ensures c.if-is_none.ensures) k below pos
 
 pub returns : goal.returns
 returns c =

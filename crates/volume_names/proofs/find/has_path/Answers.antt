@@ -19,7 +19,7 @@ returns-then-not-is_same_text c = λ entries has.
     ] in
     let told = rw (c.as_bytes.ensures, c.deref.ensures.value) at c.is_same_text.ensures in
     let says : is_same_text c.args.rule (name_bytes thing.name) (get_or path (length path - 1) c.name-item.result).items ≡ false =
-        ap (λ (v : Vec ℕ). is_same_text c.args.rule (name_bytes thing.name) v.items) (sym c.name-item.is) ∙ sym told ∙ c.if-not-is_same_text.true in
+    ap (λ (v : Vec ℕ). is_same_text c.args.rule (name_bytes thing.name) v.items) (sym c.name-item.is) ∙ sym told ∙ c.if-not-is_same_text.true in
     sym (thing_texts c.args.rule path c.name-item.result entries thing c.in-len1-up.len_at_least kind
     ∙ ap (λ (b : Bool). b && has_texts c.args.rule (map items_of (take (length path - 1) path)) (path_of entries thing.parent)) says)
 
@@ -33,7 +33,7 @@ returns c = λ entries has.
     ] in
     let told = rw (c.as_bytes.ensures, c.deref.ensures.value) at c.is_same_text.ensures in
     let says : is_same_text c.args.rule (name_bytes thing.name) (get_or path (length path - 1) c.name-item.result).items ≡ true =
-        ap (λ (v : Vec ℕ). is_same_text c.args.rule (name_bytes thing.name) v.items) (sym c.name-item.is) ∙ sym told ∙ c.if-not-is_same_text.false in
+    ap (λ (v : Vec ℕ). is_same_text c.args.rule (name_bytes thing.name) v.items) (sym c.name-item.is) ∙ sym told ∙ c.if-not-is_same_text.false in
     c.leads_to.ensures entries has
     ∙ sym (thing_texts c.args.rule path c.name-item.result entries thing c.in-len1-up.len_at_least kind
-      ∙ ap (λ (b : Bool). b && has_texts c.args.rule (map items_of (take (length path - 1) path)) (path_of entries thing.parent)) says)
+    ∙ ap (λ (b : Bool). b && has_texts c.args.rule (map items_of (take (length path - 1) path)) (path_of entries thing.parent)) says)
