@@ -1,5 +1,5 @@
 use Rattle.std.proofs.Common.{sym, ◌∙◌}
-use Rattle.image_files.proofs.Missing.{finds_thing, misses}
+use Rattle.image_files.proofs.Missing.{finds_thing}
 use Rattle.image_files.proofs.found.find_in.Goals as goal
 
 pub returns-in-Some : goal.returns-in-Some
