@@ -33,7 +33,7 @@ LINES = {
 }
 WIDTH = 100
 # the most words of all pages, code blocks aside
-WORDS = 11500
+WORDS = 11550
 GLOSSARY = "docs/DESIGN.md"
 # the line of the glossary that has the words that no page uses, and what is allowed of them
 ALLOWED = re.compile(r"\bstands? for\b")
