@@ -1,8 +1,11 @@
 -- What was done with the host's files and with the standard output, and what was written.
-use Rattle.std.specs.Prelude.{◌≡◌, ℕ, true, false, List, [], ◌∷◌, Option, None, Some, Result, Ok, Err, Vec, ⊤}
+use Rattle.std.specs.Prelude.{◌≡◌, ◌≢◌, ◌⊎◌, ℕ, true, false, List, [], ◌∷◌, Option, None, Some, Result, Ok, Err, Vec, codes, ⊤}
 use Rattle.std.specs.List.{Contains}
 use Rattle.std.specs.Global.{Global}
 use Rattle.std.specs.declared.fs.File.{File}
+use Rattle.host_paths.specs.Identified.{Identifies}
+use Rattle.host_paths.specs.declared.host.HostCall.{HostCall}
+use Rattle.host_paths.specs.declared.identity.Identity.{Identity}
 use Rattle.file_acts.specs.declared.acts.Act.{Act}
 use Rattle.file_acts.specs.declared.acts.Act.TheVariants as act
 use Rattle.file_acts.specs.declared.message.Problem.{Problem}
@@ -76,3 +79,18 @@ abbrev pub ReadsHeld : File → Result (Vec ℕ Global) Problem → Log → Log 
 ReadsHeld file (Ok bytes) old new = new ≡ act.ReadHeld file (Some bytes.items) ∷ old
 ReadsHeld file (Err (problem.Read why)) old new = new ≡ act.ReadHeld file None ∷ old
 ReadsHeld file (Err other) old new = ⊥
+
+-- it was asked which file a path leads to, and it is this one; none is known of the standard output, which no file is, and
+-- where the system doesn't say
+abbrev pub Knows : List ℕ → Option Identity → Log → Log → Type 0
+Knows path (Some it) old new = (calls : List HostCall) × (path ≢ codes "-") × Identifies path it [] calls × (new ≡ act.Identified path calls ∷ old)
+Knows path None old new = ((path ≡ codes "-") × (new ≡ old)) ⊎ ((calls : List HostCall) × (path ≢ codes "-") × (new ≡ act.Identified path calls ∷ old))
+
+-- one thing was done, and then another with what it gave; or the first wasn't done, and that was all
+unfoldable pub Then : {T U : Type 0} → (Result T Problem → Log → Log → Type 0) → (T → Result U Problem → Log → Log → Type 0) → Result U Problem → Log → Log → Type 0
+Then {T} first next result old new = ((done : T) × (mid : Log) × first (Ok done) old mid × next done result mid new)
+    ⊎ ((why : Problem) × (result ≡ Err why) × first (Err why) old new)
+
+-- nothing was done, and the result is so
+abbrev pub Finds : {T : Type 0} → (Result T Problem → Type 0) → Result T Problem → Log → Log → Type 0
+Finds Is result old new = Is result × (new ≡ old)

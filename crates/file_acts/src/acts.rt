@@ -2,7 +2,7 @@
 
 ghost use Rattle.std.specs.Prelude.{◌≡◌, ◌∷◌, Some, is_ok, string_bytes};
 ghost use Rattle.host_paths.specs.Asked.{answer_of};
-ghost use Rattle.file_acts.specs.Acts.{Prints, ReadsNothing, ReadsOnly, WritesNothing, bytes_read};
+ghost use Rattle.file_acts.specs.Acts.{Knows, Prints, ReadsNothing, ReadsOnly, WritesNothing, bytes_read};
 ghost use Rattle.file_acts.specs.Saved.{ShowsSaved};
 ghost use Rattle.file_acts.specs.declared.acts.Act.TheVariants as act;
 
@@ -131,6 +131,7 @@ pub fn look_at(host: &Host<'_>, path: &str, acts: &mut Acts) -> io::Result<Optio
 /// What the path of a file leads to. None of the standard input or output, and of a path that can't be looked up: such
 /// a one can't be opened either.
 pub fn identity_of(host: &Host<'_>, path: &str, acts: &mut Acts) -> Option<Identity>
+    ensures asks { Knows path.now result acts.old.events acts.new.events }
     ensures quiet { WritesNothing acts.old.events acts.new.events }
     ensures seen { ShowsSaved acts.old.events acts.new.events }
 {

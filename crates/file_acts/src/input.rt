@@ -59,6 +59,7 @@ fn read_within<R: Read + Drop>(
 ) -> Result<Vec<u8>, NotRead>
     ensures all { IfOk result (λ bytes. IfSome (R.remaining reader) (λ all. (bytes.items ≡ all) × (length all ≤ most))) }
     ensures refused { IfErr result (IsNotRead (R.remaining reader) most) }
+    ensures few { IfOk result (λ bytes. length bytes.items ≤ most) }
 {
     let bytes = read_all(alloc, reader.take(most.saturating_add(1)), expected)?;
     if bytes.len() as u64 > most {
@@ -69,7 +70,9 @@ fn read_within<R: Read + Drop>(
 
 /// All bytes of a file, if they are no more than these, into room for as many as it has and one more, for the read that
 /// finds the end.
-fn read_file(alloc: Global, file: &File, most: u64) -> Result<Vec<u8>, NotRead> {
+fn read_file(alloc: Global, file: &File, most: u64) -> Result<Vec<u8>, NotRead>
+    ensures { IfOk result (λ bytes. length bytes.items ≤ most) }
+{
     let found = file.metadata()?;
     if found.is_file() && found.len() > most {
         return Err(NotRead::TooLong(most));
@@ -79,7 +82,9 @@ fn read_file(alloc: Global, file: &File, most: u64) -> Result<Vec<u8>, NotRead> 
 }
 
 /// The bytes of what this path leads to, or of the standard input, if they aren't too many.
-fn read_path(host: &Host<'_>, path: &str) -> Result<Vec<u8>, NotRead> {
+fn read_path(host: &Host<'_>, path: &str) -> Result<Vec<u8>, NotRead>
+    ensures { IfOk result (λ bytes. length bytes.items ≤ host.now.limit) }
+{
     if path == INPUT {
         return read_within(host.alloc(), host.rt.stdin(), 0, host.limit);
     }
@@ -89,6 +94,7 @@ fn read_path(host: &Host<'_>, path: &str) -> Result<Vec<u8>, NotRead> {
 /// The same, noted.
 fn read_whole(host: &Host<'_>, path: &str, acts: &mut Acts) -> Result<Vec<u8>, NotRead>
     ensures notes { acts.new.events ≡ act.Read path.now (bytes_read result) ∷ acts.old.events }
+    ensures few { IfOk result (λ bytes. length bytes.items ≤ host.now.limit) }
     ensures quiet { ReadsOnly path.now acts.old.events acts.new.events }
 {
     let read = read_path(host, path);
@@ -100,6 +106,7 @@ fn read_whole(host: &Host<'_>, path: &str, acts: &mut Acts) -> Result<Vec<u8>, N
 /// host has no memory, or there are more bytes than the host's limit.
 pub fn read(host: &Host<'_>, file: &str, acts: &mut Acts) -> Result<Vec<u8>, Problem>
     ensures reads { Reads file.now result acts.old.events acts.new.events }
+    ensures few { IfOk result (λ bytes. length bytes.items ≤ host.now.limit) }
     ensures quiet { ReadsOnly file.now acts.old.events acts.new.events }
     ensures seen { ShowsSaved acts.old.events acts.new.events }
 {
@@ -112,18 +119,20 @@ pub fn read(host: &Host<'_>, file: &str, acts: &mut Acts) -> Result<Vec<u8>, Pro
 /// The same of a file that belongs to another, with its path in the problem: `Problem::Unread`.
 pub fn read_other(host: &Host<'_>, path: &str, acts: &mut Acts) -> Result<Vec<u8>, Problem>
     ensures reads { ReadsOther path.now result acts.old.events acts.new.events }
+    ensures few { IfOk result (λ bytes. length bytes.items ≤ host.now.limit) }
     ensures quiet { ReadsOnly path.now acts.old.events acts.new.events }
     ensures seen { ShowsSaved acts.old.events acts.new.events }
 {
     match read_whole(host, path, acts) {
         Ok(bytes) => Ok(bytes),
-        Err(error) => Err(unread(host, path, error)),
+        Err(error) => Err(unread(host.alloc(), path, error)),
     }
 }
 
 /// The bytes of a file that is held. `Problem::Read` comes as above.
 pub fn read_held(host: &Host<'_>, file: &File, acts: &mut Acts) -> Result<Vec<u8>, Problem>
     ensures reads { ReadsHeld file.now result acts.old.events acts.new.events }
+    ensures few { IfOk result (λ bytes. length bytes.items ≤ host.now.limit) }
     ensures just { IfOk result (λ bytes. JustRead bytes.items acts.new.events) }
     ensures seen { ShowsSaved acts.old.events acts.new.events }
 {
@@ -169,11 +178,11 @@ pub fn read_front(
 }
 
 /// That a file which belongs to another isn't read: `Problem::Unread`, or `HostFull` without memory for its path.
-pub fn unread(host: &Host<'_>, path: &str, error: NotRead) -> Problem
+pub fn unread(alloc: Global, path: &str, error: NotRead) -> Problem
     ensures { IsToldUnread result }
 {
     let path = FileName(path);
-    match format!(in host.alloc(); "{path}") {
+    match format!(in alloc; "{path}") {
         Ok(path) => Problem::Unread { path, error },
         Err(_) => Problem::HostFull,
     }
@@ -204,6 +213,6 @@ pub fn names_in(host: &Host<'_>, path: &str, acts: &mut Acts) -> Result<Vec<Stri
     note_listed(acts, path);
     match names {
         Ok(names) => Ok(names),
-        Err(error) => Err(unread(host, path, NotRead::Failed(error))),
+        Err(error) => Err(unread(host.alloc(), path, NotRead::Failed(error))),
     }
 }

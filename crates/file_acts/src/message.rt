@@ -307,29 +307,41 @@ fn wanted_text(alloc: Global, wanted: &Wanted) -> Result<String, AllocError> {
     Ok(text)
 }
 
-/// Says why the file of this name isn't shown, or not all of it.
-fn tell_problem(host: &Host<'_>, file: &str, problem: &Problem) {
+/// What is said of a problem of the file of this name: nothing, where whoever read the output has gone away.
+fn lines_of(alloc: Global, file: &str, problem: &Problem) -> Result<String, AllocError> {
     if problem.is_silent() {
-        return;
+        return Ok(String::new(alloc));
     }
-    let _ = match problem {
-        Problem::Refused(Refusal::Archive(archive)) => tell_archive(host, file, *archive),
-        Problem::Refused(Refusal::Inside(archive)) => tell_inside(host, file, *archive),
+    match problem {
+        Problem::Refused(Refusal::Archive(archive)) => archive_line(alloc, file, *archive),
+        Problem::Refused(Refusal::Inside(archive)) => inside_line(alloc, file, *archive),
         Problem::Refused(
             Refusal::Damaged {
-                told,
-                is_readable: true,
+                is_readable: true, ..
             },
-        ) => tell_damaged(host, file, told.as_str()),
-        Problem::Salvageable(refusal) => tell_salvageable(host, file, refusal),
-        Problem::Edit(fork_change::Refusal::Missing(what)) => tell_missing(host, file, *what),
-        Problem::NoKind(kind) => tell_no_kind(host, file, *kind),
-        Problem::Untold(others) => tell_untold(host, file, others.as_slice()),
-        Problem::Output { path, .. } => tell_words(host, path.as_str(), problem),
+        )
+        | Problem::Salvageable(_) => damaged_line(alloc, file, problem),
+        Problem::Edit(fork_change::Refusal::Missing(what)) => missing_line(alloc, file, *what),
+        Problem::NoKind(kind) => no_kind_line(alloc, file, *kind),
+        Problem::Untold(others) => untold_lines(alloc, file, others.as_slice()),
+        Problem::Output { path, .. } => words_line(alloc, path.as_str(), problem),
         Problem::Container(path) | Problem::NotFork(path) | Problem::Lacking { path, .. } => {
-            tell_words(host, path.as_str(), problem)
+            words_line(alloc, path.as_str(), problem)
         }
-        problem => tell_words(host, file, problem),
+        problem => words_line(alloc, file, problem),
+    }
+}
+
+/// Prints what is said of the file of this name on the standard error, if it takes it; or that the host has no memory to
+/// say it.
+pub fn tell(host: &Host<'_>, file: &str, lines: Result<String, AllocError>) {
+    let _ = match lines {
+        Ok(lines) => eprint!(host.rt; "{lines}"),
+        Err(_) => {
+            let file = FileName(file);
+            let full = Problem::HostFull;
+            eprintln!(host.rt; "{file}: {full}")
+        }
     };
 }
 
@@ -341,7 +353,7 @@ pub fn finish(host: &Host<'_>, file: &str, done: Result<u8, Problem>) -> u8
     match done {
         Ok(status) => status,
         Err(problem) => {
-            tell_problem(host, file, &problem);
+            tell(host, file, lines_of(host.alloc(), file, &problem));
             let status = problem.status();
             drop(problem);
             status
@@ -349,78 +361,65 @@ pub fn finish(host: &Host<'_>, file: &str, done: Result<u8, Problem>) -> u8
     }
 }
 
-/// Says that the fork of the file of this name is damaged, and how what can be read is had.
-fn tell_damaged(host: &Host<'_>, file: &str, told: &str) -> io::Result<()> {
+/// That the fork of the file of this name is damaged, or which fault its container has; and how what can be read is had.
+fn damaged_line(alloc: Global, file: &str, problem: &Problem) -> Result<String, AllocError> {
     let word = Operand(file);
     let file = FileName(file);
-    let told = Lines(told);
-    eprintln!(host.rt; "{file}: {told}: resfork salvage {word} -o OUT")
+    let told = format!(in alloc; "{problem}")?;
+    let told = Lines(told.as_str());
+    format!(in alloc; "{file}: {told}: resfork salvage {word} -o OUT\n")
 }
 
-/// Says which fault the container of the file of this name has, and how what can be read is had.
-fn tell_salvageable(host: &Host<'_>, file: &str, refusal: &Refusal) -> io::Result<()> {
-    match format!(in host.alloc(); "{refusal}") {
-        Ok(told) => tell_damaged(host, file, told.as_str()),
-        Err(_) => tell_words(host, file, &Problem::HostFull),
-    }
-}
-
-/// Reports a problem of the file of this name in its own words. They may have in them what others wrote, as a text of
-/// which a part is named.
-fn tell_words(host: &Host<'_>, file: &str, problem: &Problem) -> io::Result<()> {
+/// A problem of the file of this name in its own words. They may have in them what others wrote, as a text of which a
+/// part is named.
+fn words_line(alloc: Global, file: &str, problem: &Problem) -> Result<String, AllocError> {
     let file = FileName(file);
-    match format!(in host.alloc(); "{problem}") {
-        Ok(told) => {
-            let told = Lines(told.as_str());
-            eprintln!(host.rt; "{file}: {told}")
-        }
-        Err(_) => {
-            let full = Problem::HostFull;
-            eprintln!(host.rt; "{file}: {full}")
-        }
-    }
+    let told = format!(in alloc; "{problem}")?;
+    let told = Lines(told.as_str());
+    format!(in alloc; "{file}: {told}\n")
 }
 
-/// Says that the file of this name has no resource of this type.
-fn tell_no_kind(host: &Host<'_>, file: &str, kind: ResType) -> io::Result<()> {
+/// That the file of this name has no resource of this type.
+fn no_kind_line(alloc: Global, file: &str, kind: ResType) -> Result<String, AllocError> {
     let file = FileName(file);
     let kind = KindText::new(Letters::Roman, kind);
-    eprintln!(host.rt; "{file}: there is no resource of the type {kind}")
+    format!(in alloc; "{file}: there is no resource of the type {kind}\n")
 }
 
-/// Says why resources of the file of this name aren't shown with the others.
-fn tell_untold(host: &Host<'_>, file: &str, others: &[Untold]) -> io::Result<()> {
+/// Why resources of the file of this name aren't shown with the others.
+fn untold_lines(alloc: Global, file: &str, others: &[Untold]) -> Result<String, AllocError> {
     let file = FileName(file);
+    let mut lines = String::new(alloc);
     for other in others {
         let kind = KindText::new(Letters::Roman, other.kind);
         let id = other.id;
         let why = other.why;
-        eprintln!(host.rt; "{file}: {kind} {id}: {why}")?;
+        writeln!(lines, "{file}: {kind} {id}: {why}")?;
     }
-    Ok(())
+    Ok(lines)
 }
 
-/// Says that the file of this name has no resource of this type and id.
-fn tell_missing(host: &Host<'_>, file: &str, what: ResourceId) -> io::Result<()> {
+/// That the file of this name has no resource of this type and id.
+fn missing_line(alloc: Global, file: &str, what: ResourceId) -> Result<String, AllocError> {
     let file = FileName(file);
     let kind = KindText::new(Letters::Roman, what.kind);
     let id = what.id;
-    eprintln!(host.rt; "{file}: there is no resource {kind} {id}")
+    format!(in alloc; "{file}: there is no resource {kind} {id}\n")
 }
 
-/// Says that the file of this name is an archive, and what opens it.
-fn tell_archive(host: &Host<'_>, file: &str, archive: Archive) -> io::Result<()> {
+/// That the file of this name is an archive, and what opens it.
+fn archive_line(alloc: Global, file: &str, archive: Archive) -> Result<String, AllocError> {
     let opening = Opening { archive, file };
     let file = FileName(file);
     let name = archive.name();
-    eprintln!(host.rt; "{file}: a {name}, which resfork doesn't unpack: {opening}")
+    format!(in alloc; "{file}: a {name}, which resfork doesn't unpack: {opening}\n")
 }
 
-/// Notes that the file of this name has no resources, and this archive in its data fork, and what opens it.
-pub fn tell_inside(host: &Host<'_>, file: &str, archive: Archive) -> io::Result<()> {
+/// That the file of this name has no resources, and this archive in its data fork, and what opens it.
+pub fn inside_line(alloc: Global, file: &str, archive: Archive) -> Result<String, AllocError> {
     let note = InsideNote { archive, file };
     let file = FileName(file);
-    eprintln!(host.rt; "{file}: {note}")
+    format!(in alloc; "{file}: {note}\n")
 }
 
 /// Says why the words ask for nothing. The result is the exit status.

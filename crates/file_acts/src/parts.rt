@@ -1,6 +1,6 @@
 //! Files that are resource forks and nothing else: of them only what is shown is read.
 
-ghost use Rattle.std.specs.Prelude.{◌≡◌, ◌≢◌, Err, IfErr, IfNone, IfSome, Some};
+ghost use Rattle.std.specs.Prelude.{◌≡◌, ◌≢◌, [], Err, IfErr, IfNone, IfSome, Some};
 ghost use Rattle.fork_bytes.specs.declared.fault.ForkFault.{ForkFault};
 ghost use Rattle.fork_answer.specs.Answer.{IsQuiet};
 ghost use Rattle.file_acts.specs.Acts.{ReadsOnly};
@@ -19,8 +19,10 @@ use std::alloc::AllocError;
 use std::fs;
 use std::io::Write;
 
-/// Opens a file to be read in parts.
-fn open_parts<W: World>(host: &Host<'_>, name: &str) -> Option<PlainStore<FileDisk<W>>> {
+/// Opens a file to be read in parts, of which nothing was asked so far.
+fn open_parts<W: World>(host: &Host<'_>, name: &str) -> Option<PlainStore<FileDisk<W>>>
+    ensures { IfSome result (λ store. store.disk.log.events ≡ []) }
+{
     let file = fs::open(host.rt, name).ok()?;
     Some(PlainStore {
         disk: FileDisk::new(HostFile::new(file), 0),
@@ -34,6 +36,7 @@ fn file_of<W: World>(
     acts: &mut Acts,
 ) -> Option<PlainStore<FileDisk<W>>>
     ensures quiet { ReadsOnly name.now acts.old.events acts.new.events }
+    ensures fresh { IfSome result (λ store. store.disk.log.events ≡ []) }
 {
     if name == INPUT {
         return None;

@@ -32,10 +32,6 @@ use Rattle.file_acts.specs.Acts.{Log, Prints}
 use Rattle.file_acts.specs.Saved.{AreGood, ArePut, IsGood, IsPut, JustRead, JustSaved, SeenIsSaved, ShowsSaved}
 use Rattle.fork_saves.specs.Saving.{AreRenewed, IsOf}
 
--- what a path has and what is beside it: of that nothing is said
-abbrev pub unknown : HeldAt
-unknown calls = record { path = None; beside = None }
-
 -- the calls of a file that was put are those that made it, and those of its rename
 put_calls : (bytes : List ℕ) (rights : Option Rights) (now : Owner) (answer : FolderSync) (made all : List Answered) → made ≡ prepared_calls rights now bytes []
     → all ≡ answered (calls.SyncFolder answer) true [] ∷ after_check SyncFolder made → IsPut bytes all

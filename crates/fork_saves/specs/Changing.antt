@@ -1,14 +1,21 @@
 -- What becomes of a file that is changed, and is saved.
-use Rattle.std.specs.Option.{option_map_or}
-use Rattle.std.specs.Prelude.{◌≡◌, ◌≢◌, ◌⊎◌, ℕ, List, Option, Some, None, Ok, codes, false, true, is_some, IfSome}
+use Rattle.std.specs.Option.{option_map_or, option_or}
+use Rattle.std.specs.Prelude.{◌≡◌, ◌≢◌, ◌⊎◌, ◌&&◌, ◌||◌, not, if◌then◌else◌, ℕ, Bool, List, [], Option, Some, None, Result, Ok, Err, Vec, ⊤, bytes_eq, codes, string_bytes, false, true, is_some, IfSome}
+use Rattle.std.specs.Borrow.{Bor}
+use Rattle.std.specs.Global.{Global}
 use Rattle.fork_bytes.specs.Rows.{Row}
 use Rattle.fork_edit.specs.Changes.{Comes}
 use Rattle.fork_edit.specs.declared.change.NewFile.{NewFile}
+use Rattle.fork_edit.specs.declared.change.NotChanged.{NotChanged}
 use Rattle.fork_edit.specs.declared.edit.Edit.{Edit}
 use Rattle.fork_words.specs.declared.work.Conversion.{Conversion}
 use Rattle.fork_words.specs.declared.work.Target.{Target}
-use Rattle.file_acts.specs.Acts.{Log}
+use Rattle.file_replace.specs.declared.held.Held.{Held}
+use Rattle.file_acts.specs.Acts.{Finds, Log, Prints, Reads, ReadsHeld, Then}
+use Rattle.file_acts.specs.Problems.{IsToldOfChange, after_change}
+use Rattle.file_acts.specs.declared.message.Problem.{Problem}
 use Rattle.file_acts.specs.Saved.{JustRead, SavedAndSaid}
+use Rattle.fork_saves.specs.Putting.{OpensFile, Renews, Saves}
 
 -- a changed file was saved; where nothing changes, the bytes as they were, or these were read and that was all
 abbrev pub EndsAs : List ℕ → Option NewFile → Log → Type 0
@@ -38,3 +45,103 @@ IsForNew asked = (asked.target.is_dry ≡ false) × (written_file asked.target �
 -- nothing is written: no other file is named, or it is only said what would be done
 abbrev pub IsIdle : Target → Type 0
 IsIdle target = (target.output ≡ None) ⊎ (target.is_dry ≡ true)
+
+-- What is done, act by act.
+
+-- what comes of bytes by an edit, or what is reported where nothing does
+abbrev pub IsOutcome : List ℕ → List Row → Edit → Result (Option NewFile) Problem → Type 0
+IsOutcome file from edit (Ok changed) = Comes file from edit (Ok changed)
+IsOutcome file from edit (Err told) = (fault : NotChanged) × Comes file from edit (Err fault) × IsToldOfChange file fault told
+
+-- the other file that is written, if one is
+abbrev pub goes_to : Target → Option (Bor (List ℕ))
+goes_to target = if target.is_dry then None else target.output
+
+-- the file that is read isn't written: another one is, or none
+abbrev pub is_elsewhere : Target → Bool
+is_elsewhere target = target.is_dry || is_some target.output
+
+-- the standard output, which "-" is
+abbrev pub is_output : Option (Bor (List ℕ)) → Bool
+is_output None = false
+is_output (Some path) = bytes_eq path.now (codes "-")
+
+-- it is said what was done, or would be: not where that isn't wanted, or the file itself goes to the standard output
+abbrev pub is_said : Target → Bool
+is_said target = not target.is_quiet && not (is_output (goes_to target))
+
+-- bytes were written to the other file, if one is written
+unfoldable pub WritesTo : Option (Bor (List ℕ)) → List ℕ → Result ⊤ Problem → Log → Log → Type 0
+WritesTo None bytes = Finds (λ end. end ≡ Ok tt)
+WritesTo (Some path) bytes = Saves path.now bytes
+
+-- it was said what was done, if that is wanted
+unfoldable pub SaysIf : Bool → List ℕ → Result ℕ Problem → Log → Log → Type 0
+SaysIf true text = Then {T = ⊤} (Prints text) (λ _. Finds (λ end. end ≡ Ok 0))
+SaysIf false text = Finds (λ end. end ≡ Ok 0)
+
+unfoldable pub Says : Target → List ℕ → Result ℕ Problem → Log → Log → Type 0
+Says target text = SaysIf (is_said target) text
+
+-- the end, where a file is changed already
+abbrev pub after_end : Result ℕ Problem → Result ℕ Problem
+after_end (Ok status) = Ok status
+after_end (Err why) = Err (after_change why)
+
+-- the same, after a file was changed
+unfoldable pub SaysAfter : Target → List ℕ → Result ℕ Problem → Log → Log → Type 0
+SaysAfter target text result old new = (said : Result ℕ Problem) × Says target text said old new × (result ≡ after_end said)
+
+-- a changed file was written to the other file, and then it was said what changed
+unfoldable pub WritesChanged : Target → NewFile → Result ℕ Problem → Log → Log → Type 0
+WritesChanged target changed = Then (WritesTo (goes_to target) changed.file.items) (λ _. Says target (string_bytes changed.told))
+
+-- the same of what comes of bytes; where nothing changes, of the bytes as they are
+unfoldable pub WritesOutcome : Target → List ℕ → Option NewFile → Result ℕ Problem → Log → Log → Type 0
+WritesOutcome target before None = Then (WritesTo (goes_to target) before) (λ _. Finds (λ end. end ≡ Ok 0))
+WritesOutcome target before (Some changed) = WritesChanged target changed
+
+-- a changed file was put in the place of one that is held, and then it was said what changed
+unfoldable pub Replaces : Target → Held → List ℕ → NewFile → Result ℕ Problem → Log → Log → Type 0
+Replaces target held before changed = Then (Renews target.keeps_old held before changed.file.items) (λ _. SaysAfter target (string_bytes changed.told))
+
+-- the same of what comes of its bytes; where nothing changes, nothing was done
+unfoldable pub ReplacesBy : Target → Held → List ℕ → Option NewFile → Result ℕ Problem → Log → Log → Type 0
+ReplacesBy target held before None = Finds (λ end. end ≡ Ok 0)
+ReplacesBy target held before (Some changed) = Replaces target held before changed
+
+-- what comes of these bytes goes to the other file
+unfoldable pub ChangesInto : Target → List ℕ → List Row → Edit → Result ℕ Problem → Log → Log → Type 0
+ChangesInto target before from edit = Then (Finds (IsOutcome before from edit)) (WritesOutcome target before)
+
+-- a file was read, and what comes of its bytes goes to another
+unfoldable pub ChangesOther : Target → List Row → Edit → Result ℕ Problem → Log → Log → Type 0
+ChangesOther target from edit = Then (Reads target.file.now) (λ bytes. ChangesInto target bytes.items from edit)
+
+-- what comes of the bytes of a file that is held goes to its place
+unfoldable pub RenewsBy : Target → Held → List ℕ → List Row → Edit → Result ℕ Problem → Log → Log → Type 0
+RenewsBy target held before from edit = Then (Finds (IsOutcome before from edit)) (ReplacesBy target held before)
+
+-- a file that is held was read, and what comes of its bytes goes to its place
+unfoldable pub ChangesHeld : Target → Held → List Row → Edit → Result ℕ Problem → Log → Log → Type 0
+ChangesHeld target held from edit = Then (ReadsHeld held.file) (λ bytes. RenewsBy target held bytes.items from edit)
+
+-- a file was opened and locked, and that one read, and what comes of its bytes put in its place
+unfoldable pub ChangesInPlace : Target → List Row → Edit → Result ℕ Problem → Log → Log → Type 0
+ChangesInPlace target from edit = Then (OpensFile target.file.now) (λ held. ChangesHeld target held from edit)
+
+unfoldable pub ChangesIf : Bool → Target → List Row → Edit → Result ℕ Problem → Log → Log → Type 0
+ChangesIf true = ChangesOther
+ChangesIf false = ChangesInPlace
+
+-- a file was changed, in its own place or in another
+unfoldable pub Changes : Target → List Row → Edit → Result ℕ Problem → Log → Log → Type 0
+Changes target = ChangesIf (is_elsewhere target) target
+
+-- the file that is made is the other one, if one is named, or the one that would be read
+abbrev pub to_new : Target → Target
+to_new target = record target { output = option_or target.output (Some target.file) }
+
+-- a file was made
+unfoldable pub Creates : Target → List Row → Edit → Result ℕ Problem → Log → Log → Type 0
+Creates target from edit = ChangesInto (to_new target) [] from edit

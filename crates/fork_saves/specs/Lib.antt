@@ -1,4 +1,5 @@
 pub mod Saving
+pub mod Putting
 pub mod Changing
 pub mod Order
 pub mod Lasting

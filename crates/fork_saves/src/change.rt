@@ -1,10 +1,9 @@
 //! Files changed: read whole, changed, and written in their own place or in another.
 
-ghost use Rattle.std.specs.Prelude.{◌≡◌, ◌≢◌, ℕ, List, [], IfErr, IfOk, IfSome, Ok, codes, true};
-ghost use Rattle.fork_edit.specs.Changes.{Comes};
+ghost use Rattle.std.specs.Prelude.{◌≡◌, ◌≢◌, ℕ, List, [], IfErr, IfNone, IfOk, IfSome, Ok, codes, false, is_some, string_bytes, true};
 ghost use Rattle.file_acts.specs.Acts.{ReadsNothing, WritesNothing};
 ghost use Rattle.file_acts.specs.Saved.{JustRead, JustSaved, SavedAndSaid, ShowsSaved};
-ghost use Rattle.fork_saves.specs.Changing.{EndsBy, IsForFile, IsForOther, IsIdle, written_file};
+ghost use Rattle.fork_saves.specs.Changing.{Changes, ChangesHeld, ChangesInPlace, ChangesInto, ChangesOther, Creates, EndsBy, IsForFile, IsForOther, IsIdle, IsOutcome, RenewsBy, Replaces, Says, SaysAfter, WritesChanged, WritesTo, goes_to, is_elsewhere, is_output, is_said, to_new, written_file};
 ghost use Rattle.fork_saves.specs.Saving.{IsNotSaved};
 
 use crate::save::{Renewal, open_held, renew, save_to};
@@ -17,6 +16,7 @@ use fork_bytes::table::Row;
 use fork_edit::change::{NewFile, changed};
 use fork_edit::edit::Edit;
 use fork_words::work::Target;
+use std::alloc::Global;
 
 /// Changes the resources of a file, in its own place or in another. The result is the exit status; or why it isn't
 /// changed, or that it is and the standard output takes no more.
@@ -27,16 +27,26 @@ pub fn change_file(
     edit: Edit<'_>,
     acts: &mut Acts,
 ) -> Result<u8, Problem>
+    ensures does { Changes target.now from.now edit.entry result acts.old.events acts.new.events }
     ensures done { IfOk result (λ status. status ≡ DONE) }
     ensures dry { target.now.is_dry ≡ true → WritesNothing acts.old.events acts.new.events }
     ensures saved { IsForFile target.now → IfOk result (λ _. (old : List ℕ) × EndsBy old from.now edit.entry acts.new.events) }
     ensures seen { IsForFile target.now → ShowsSaved acts.old.events acts.new.events }
 {
-    if target.is_dry || target.output.is_some() {
+    if is_elsewhere(target) {
         change_other(host, target, from, edit, acts)
     } else {
         change_in_place(host, target, from, edit, acts)
     }
+}
+
+/// Whether the file that is read isn't written: another one is, or none.
+fn is_elsewhere(target: &Target<'_>) -> bool
+    ensures is { result ≡ is_elsewhere target.now }
+    ensures here { result ≡ false → target.now.is_dry ≡ false }
+    ensures other { result ≡ true → target.now.is_dry ≡ false → is_some target.now.output ≡ true }
+{
+    target.is_dry || target.output.is_some()
 }
 
 /// Changes what is read of a file, and writes it to another, or only says what would change.
@@ -47,6 +57,7 @@ fn change_other(
     edit: Edit<'_>,
     acts: &mut Acts,
 ) -> Result<u8, Problem>
+    ensures does { ChangesOther target.now from.now edit.entry result acts.old.events acts.new.events }
     ensures done { IfOk result (λ status. status ≡ DONE) }
     ensures dry { target.now.is_dry ≡ true → WritesNothing acts.old.events acts.new.events }
     ensures saved { IsForOther target.now → IfOk result (λ _. (old : List ℕ) × EndsBy old from.now edit.entry acts.new.events) }
@@ -64,6 +75,7 @@ pub fn create_file(
     edit: Edit<'_>,
     acts: &mut Acts,
 ) -> Result<u8, Problem>
+    ensures does { Creates target.now from.now edit.entry result acts.old.events acts.new.events }
     ensures done { IfOk result (λ status. status ≡ DONE) }
     ensures dry { target.now.is_dry ≡ true → WritesNothing acts.old.events acts.new.events }
     ensures saved { IsForFile target.now → target.now.file.now ≢ codes "-" → IfOk result (λ _. EndsBy [] from.now edit.entry acts.new.events) }
@@ -84,6 +96,7 @@ fn change_in_place(
     edit: Edit<'_>,
     acts: &mut Acts,
 ) -> Result<u8, Problem>
+    ensures does { ChangesInPlace target.now from.now edit.entry result acts.old.events acts.new.events }
     ensures done { IfOk result (λ status. status ≡ DONE) }
     ensures saved { IfOk result (λ _. (old : List ℕ) × EndsBy old from.now edit.entry acts.new.events) }
     ensures seen { ShowsSaved acts.old.events acts.new.events }
@@ -101,6 +114,7 @@ fn change_held(
     edit: Edit<'_>,
     acts: &mut Acts,
 ) -> Result<u8, Problem>
+    ensures does { ChangesHeld target.now held from.now edit.entry result acts.old.events acts.new.events }
     ensures done { IfOk result (λ status. status ≡ DONE) }
     ensures saved { IfOk result (λ _. (old : List ℕ) × EndsBy old from.now edit.entry acts.new.events) }
     ensures seen { ShowsSaved acts.old.events acts.new.events }
@@ -118,12 +132,13 @@ fn renew_by(
     change: (&[Row<'_>], Edit<'_>),
     acts: &mut Acts,
 ) -> Result<u8, Problem>
+    ensures does { RenewsBy target.now held old.now change.entry.0.now change.entry.1 result acts.old.events acts.new.events }
     ensures done { IfOk result (λ status. status ≡ DONE) }
     ensures saved { JustRead old.now acts.old.events → IfOk result (λ _. EndsBy old.now change.entry.0.now change.entry.1 acts.new.events) }
     ensures seen { JustRead old.now acts.old.events → ShowsSaved acts.old.events acts.new.events }
 {
     let (from, edit) = change;
-    match changed_of(host, old, from, edit)? {
+    match changed_of(host.alloc(), old, from, edit)? {
         Some(changed) => replace(host, target, held, old, &changed, acts),
         None => Ok(DONE),
     }
@@ -138,6 +153,7 @@ fn replace(
     changed: &NewFile,
     acts: &mut Acts,
 ) -> Result<u8, Problem>
+    ensures does { Replaces target.now held old.now changed.now result acts.old.events acts.new.events }
     ensures done { IfOk result (λ status. status ≡ DONE) }
     ensures saved { JustRead old.now acts.old.events → IfOk result (λ _. SavedAndSaid changed.now.file.items acts.new.events) }
     ensures seen { JustRead old.now acts.old.events → ShowsSaved acts.old.events acts.new.events }
@@ -153,14 +169,13 @@ fn replace(
 
 /// What becomes of a file, or None where nothing changes.
 fn changed_of(
-    host: &Host<'_>,
+    alloc: Global,
     old: &[u8],
     from: &[Row<'_>],
     edit: Edit<'_>,
 ) -> Result<Option<NewFile>, Problem>
-    ensures { IfOk result (λ changed. Comes old.now from.now edit.entry (Ok changed)) }
+    ensures { IsOutcome old.now from.now edit.entry result }
 {
-    let alloc = host.alloc();
     match changed(alloc, old, from, edit) {
         Ok(changed) => Ok(changed),
         Err(fault) => Err(Problem::of_change(alloc, fault, old)),
@@ -176,12 +191,13 @@ fn change_into(
     edit: Edit<'_>,
     acts: &mut Acts,
 ) -> Result<u8, Problem>
+    ensures does { ChangesInto target.now old.now from.now edit.entry result acts.old.events acts.new.events }
     ensures done { IfOk result (λ status. status ≡ DONE) }
     ensures dry { target.now.is_dry ≡ true → WritesNothing acts.old.events acts.new.events }
     ensures saved { IsForOther target.now → IfOk result (λ _. EndsBy old.now from.now edit.entry acts.new.events) }
     ensures seen { IsForOther target.now → ShowsSaved acts.old.events acts.new.events }
 {
-    match changed_of(host, old, from, edit)? {
+    match changed_of(host.alloc(), old, from, edit)? {
         Some(changed) => write_changed(host, target, &changed, acts),
         None => {
             write_output(host, target, old, acts)?;
@@ -197,6 +213,7 @@ fn write_changed(
     changed: &NewFile,
     acts: &mut Acts,
 ) -> Result<u8, Problem>
+    ensures does { WritesChanged target.now changed.now result acts.old.events acts.new.events }
     ensures done { IfOk result (λ status. status ≡ DONE) }
     ensures dry { target.now.is_dry ≡ true → WritesNothing acts.old.events acts.new.events }
     ensures saved { IsForOther target.now → IfOk result (λ _. SavedAndSaid changed.now.file.items acts.new.events) }
@@ -213,6 +230,15 @@ pub fn written_file<'a>(target: &Target<'a>) -> &'a str
     target.output.unwrap_or(target.file)
 }
 
+/// The other file that is written, if one is.
+fn goes_to<'a>(target: &Target<'a>) -> Option<&'a str>
+    ensures is { result ≡ goes_to target.now }
+    ensures some { IfSome result (λ path. (target.now.is_dry ≡ false) × (target.now.output ≡ Some path)) }
+    ensures none { IfNone result (IsIdle target.now) }
+{
+    if target.is_dry { None } else { target.output }
+}
+
 /// Writes the file that a command names, unless it only says what it would do. A problem is one of the output's path.
 pub fn write_output(
     host: &Host<'_>,
@@ -220,16 +246,35 @@ pub fn write_output(
     bytes: &[u8],
     acts: &mut Acts,
 ) -> Result<(), Problem>
+    ensures does { WritesTo (goes_to target.now) bytes.now result acts.old.events acts.new.events }
     ensures idle { IsIdle target.now → (result ≡ Ok tt) × (acts.new.events ≡ acts.old.events) }
     ensures dry { target.now.is_dry ≡ true → WritesNothing acts.old.events acts.new.events }
     ensures cause { IfErr result (λ why. IfSome target.now.output (λ path. IsNotSaved path.now why)) }
     ensures saved { IsForOther target.now → IfOk result (λ _. JustSaved bytes.now acts.new.events) }
     ensures seen { IsForOther target.now → ShowsSaved acts.old.events acts.new.events }
 {
-    match target.output {
-        Some(output) if !target.is_dry => save_to(host, output, bytes, acts),
-        _ => Ok(()),
+    match goes_to(target) {
+        Some(output) => save_to(host, output, bytes, acts),
+        None => Ok(()),
     }
+}
+
+/// Whether this is the standard output.
+fn is_output(output: Option<&str>) -> bool
+    ensures { result ≡ is_output output.entry }
+{
+    match output {
+        Some(path) => path == OUTPUT,
+        None => false,
+    }
+}
+
+/// Whether it is said what was done, or would be.
+fn is_said(target: &Target<'_>) -> bool
+    ensures is { result ≡ is_said target.now }
+    ensures quiet { target.now.is_quiet ≡ true → result ≡ false }
+{
+    !target.is_quiet && !is_output(goes_to(target))
 }
 
 /// Says what was done, or would be, unless the file itself goes to the standard output.
@@ -239,15 +284,17 @@ pub fn say(
     text: &String,
     acts: &mut Acts,
 ) -> Result<u8, Problem>
+    ensures does { Says target.now (string_bytes text.now) result acts.old.events acts.new.events }
     ensures done { IfOk result (λ status. status ≡ DONE) }
     ensures quiet { target.now.is_quiet ≡ true → (result ≡ Ok DONE) × (acts.new.events ≡ acts.old.events) }
     ensures reads { ReadsNothing acts.old.events acts.new.events }
     ensures saved { (bytes : List ℕ) → JustSaved bytes acts.old.events → IfOk result (λ _. SavedAndSaid bytes acts.new.events) }
     ensures seen { (bytes : List ℕ) → JustSaved bytes acts.old.events → ShowsSaved acts.old.events acts.new.events }
 {
-    if !target.is_quiet && (target.is_dry || target.output != Some(OUTPUT)) {
-        write_text(host, text, acts)?;
+    if !is_said(target) {
+        return Ok(DONE);
     }
+    write_text(host, text, acts)?;
     Ok(DONE)
 }
 
@@ -258,6 +305,7 @@ fn say_after(
     text: &String,
     acts: &mut Acts,
 ) -> Result<u8, Problem>
+    ensures does { SaysAfter target.now (string_bytes text.now) result acts.old.events acts.new.events }
     ensures done { IfOk result (λ status. status ≡ DONE) }
     ensures saved { (bytes : List ℕ) → JustSaved bytes acts.old.events → IfOk result (λ _. SavedAndSaid bytes acts.new.events) }
     ensures seen { (bytes : List ℕ) → JustSaved bytes acts.old.events → ShowsSaved acts.old.events acts.new.events }

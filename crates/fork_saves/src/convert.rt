@@ -88,8 +88,8 @@ fn is_sure(bytes: &[u8]) -> bool {
 /// Checks that bytes in no container that is known for sure are a resource fork.
 fn check_fork(host: &Host<'_>, bytes: &[u8]) -> Result<(), Problem> {
     if !is_sure(bytes) {
-        let found = fork_found(host, bytes)?;
-        table_found(host, &found, bytes)?;
+        let found = fork_found(host.alloc(), bytes)?;
+        table_found(host.alloc(), &found, bytes)?;
     }
     Ok(())
 }
@@ -268,7 +268,7 @@ fn convert_bytes(
     check_fork(host, bytes)?;
     match OldFile::open(host.alloc(), bytes) {
         Ok(found) => convert_file(host, asked, order, bytes, parts_of(&found), acts),
-        Err(fault) => Err(refused_as(host, Failure::NoFork(NoFork::File(fault)), bytes)),
+        Err(fault) => Err(refused_as(host.alloc(), Failure::NoFork(NoFork::File(fault)), bytes)),
     }
 }
 

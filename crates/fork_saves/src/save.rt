@@ -1,18 +1,20 @@
 //! Files that are written: prepared beside their paths, and then put there.
 
-ghost use Rattle.std.specs.Prelude.{◌≡◌, ◌≢◌, [], IfErr, IfOk, codes};
+ghost use Rattle.std.specs.Prelude.{◌≡◌, ◌≢◌, [], Err, IfErr, IfOk, codes};
 ghost use Rattle.file_acts.specs.Saved.{JustRead, JustSaved, ShowsSaved};
+ghost use Rattle.fork_saves.specs.Putting.{IsEndOfBoth, IsToldUnsaved, MakesFile, MakesReady, OpensFile, PreparesPath, PutsBoth, PutsFile, PutsFiles, PutsOver, PutsReady, Renews, Saves};
 ghost use Rattle.fork_saves.specs.Saving.{AreRenewed, IsForPath, IsNotSaved, IsOf, IsReadyOf, IsWhole, SavesReady, ready_path};
 
 use crate::ready::{Ready, ReadyFile};
 use file_acts::acts::{Acts, note_saved, print};
 use file_acts::host::{Host, OUTPUT};
-use file_acts::message::Problem;
+use file_acts::message::{Problem, tell};
 use file_replace::{
     Destination, Difference, Held, HeldCalls, Losses, NotBoth, NotReplaced, Prepared,
     UnknownFolder, put_both,
 };
 use path_text::FileName;
+use std::alloc::{AllocError, Global};
 use std::io::IsTerminal;
 use std::path::PathBuf;
 
@@ -20,6 +22,7 @@ use std::path::PathBuf;
 fn not_saved(host: &Host<'_>, path: &str, error: NotReplaced) -> Problem
     requires { path.now ≢ codes "-" }
     ensures saved { IsNotSaved path.now result }
+    ensures told { IsToldUnsaved path.now error result }
 {
     match String::from_str(host.alloc(), path) {
         Ok(path) => Problem::Output { path, error },
@@ -34,7 +37,8 @@ fn prepared<'a>(
     bytes: &'a [u8],
     log: &mut HeldCalls,
 ) -> Result<Prepared<'a, UnknownFolder>, NotReplaced>
-    ensures { IfOk result (IsOf bytes.now) }
+    ensures whole { IfOk result (IsOf bytes.now) }
+    ensures does { PreparesPath path.now bytes.now result log.old.events log.new.events }
 {
     match Destination::open(host.rt, path, log) {
         Ok(destination) => destination.prepare(host.rt, bytes, log),
@@ -42,24 +46,32 @@ fn prepared<'a>(
     }
 }
 
-/// Says that a user or a group loses a file.
-fn tell_changed(host: &Host<'_>, path: &str, kind: &str, change: Option<Difference>) {
-    if let Some(Difference { old, new }) = change {
-        let path = FileName(path);
-        let _ = eprintln!(host.rt;
+/// Adds that a user or a group loses the file at a path.
+fn push_change(
+    lines: &mut String,
+    path: FileName<'_>,
+    kind: &str,
+    change: Option<Difference>,
+) -> Result<(), AllocError> {
+    match change {
+        Some(Difference { old, new }) => writeln!(
+            lines,
             "{path}: will belong to the {kind} {new}, and no more to the {kind} {old}"
-        );
+        ),
+        None => Ok(()),
     }
 }
 
-/// Says what the file at a path has and the one that takes its place hasn't.
-fn tell_losses(host: &Host<'_>, path: &str, losses: Losses) {
+/// What the file at a path has and the one that takes its place hasn't, in lines.
+fn losses_lines(alloc: Global, path: &str, losses: Losses) -> Result<String, AllocError> {
+    let path = FileName(path);
+    let mut lines = String::new(alloc);
     if let Some(names) = losses.names {
-        let path = FileName(path);
-        let _ = eprintln!(host.rt; "{path}: has {names} names; the other names keep the old file");
+        writeln!(lines, "{path}: has {names} names; the other names keep the old file")?;
     }
-    tell_changed(host, path, "user", losses.user);
-    tell_changed(host, path, "group", losses.group);
+    push_change(&mut lines, path, "user", losses.user)?;
+    push_change(&mut lines, path, "group", losses.group)?;
+    Ok(lines)
 }
 
 /// New bytes in the place of a file's old ones, and whether these are kept beside it.
@@ -72,7 +84,8 @@ pub(crate) struct Renewal<'a> {
 
 /// Opens a regular file that is to be replaced, and locks it.
 pub(crate) fn open_held(host: &Host<'_>, path: &str, acts: &mut Acts) -> Result<Held, Problem>
-    ensures { ShowsSaved acts.old.events acts.new.events }
+    ensures does { OpensFile path.now result acts.old.events acts.new.events }
+    ensures seen { ShowsSaved acts.old.events acts.new.events }
 {
     let mut log = HeldCalls::new();
     let held = Held::open(host.rt, path, &mut log);
@@ -91,7 +104,8 @@ fn renewed(
     change: &Renewal<'_>,
     log: &mut HeldCalls,
 ) -> Result<(), NotReplaced>
-    ensures { log.old.events ≡ [] → IfOk result (λ _. AreRenewed change.now.old.now change.now.new.now log.new.events) }
+    ensures renewed { log.old.events ≡ [] → IfOk result (λ _. AreRenewed change.now.old.now change.now.new.now log.new.events) }
+    ensures does { PutsOver change.now.keeps_old held change.now.old.now change.now.new.now result log.old.events log.new.events }
 {
     match held.prepare::<UnknownFolder, UnknownFolder>(
         host.rt,
@@ -101,7 +115,7 @@ fn renewed(
         log,
     ) {
         Ok(prepared) => {
-            tell_losses(host, path, prepared.losses());
+            tell(host, path, losses_lines(host.alloc(), path, prepared.losses()));
             match prepared.put(log) {
                 Ok(_) => Ok(()),
                 Err(refusal) => Err(refusal),
@@ -119,6 +133,7 @@ pub(crate) fn renew(
     change: &Renewal<'_>,
     acts: &mut Acts,
 ) -> Result<(), Problem>
+    ensures does { Renews change.now.keeps_old held change.now.old.now change.now.new.now result acts.old.events acts.new.events }
     ensures saves { JustRead change.now.old.now acts.old.events → IfOk result (λ _. JustSaved change.now.new.now acts.new.events) }
     ensures seen { ShowsSaved acts.old.events acts.new.events }
 {
@@ -143,6 +158,7 @@ impl<'a> Ready<'a> {
         ensures path { IfOk result (λ ready. ready_path ready ≡ path.now) }
         ensures cause { IfErr result (IsNotSaved path.now) }
         ensures whole { IfOk result (IsReadyOf bytes.now) }
+        ensures does { MakesReady path.now bytes.now result acts.old.events acts.new.events }
         ensures seen { ShowsSaved acts.old.events acts.new.events }
     {
         if path == OUTPUT {
@@ -151,37 +167,16 @@ impl<'a> Ready<'a> {
             }
             return Ok(Ready::Output(bytes));
         }
-        Ready::file(host, path, bytes, acts)
-    }
-
-    /// The same of what is a file.
-    fn file(
-        host: &Host<'a>,
-        path: &'a str,
-        bytes: &'a [u8],
-        acts: &mut Acts,
-    ) -> Result<Ready<'a>, Problem>
-        requires { path.now ≢ codes "-" }
-        ensures path { IfOk result (λ ready. ready_path ready ≡ path.now) }
-        ensures cause { IfErr result (IsNotSaved path.now) }
-        ensures whole { IfOk result (IsReadyOf bytes.now) }
-        ensures seen { ShowsSaved acts.old.events acts.new.events }
-    {
-        let mut log = HeldCalls::new();
-        let prepared = prepared(host, path, bytes, &mut log);
-        note_saved(acts, &log);
-        match prepared {
-            Ok(prepared) => {
-                tell_losses(host, path, prepared.losses());
-                Ok(Ready::File(ReadyFile { path, prepared }))
-            }
-            Err(error) => Err(not_saved(host, path, error)),
+        match ReadyFile::new(host, path, bytes, acts) {
+            Ok(file) => Ok(Ready::File(file)),
+            Err(problem) => Err(problem),
         }
     }
 
     /// Puts the file at its path, which has what it had until then; or writes the bytes.
     pub(crate) fn put(self, host: &Host<'_>, acts: &mut Acts) -> Result<(), Problem>
         ensures cause { IfErr result (IsNotSaved (ready_path self.entry)) }
+        ensures does { PutsReady self.entry result acts.old.events acts.new.events }
         ensures saves { IsForPath self.entry → IfOk result (λ _. SavesReady self.entry acts.new.events) }
         ensures seen { IsForPath self.entry → ShowsSaved acts.old.events acts.new.events }
     {
@@ -192,10 +187,37 @@ impl<'a> Ready<'a> {
     }
 }
 
-impl ReadyFile<'_> {
+impl<'a> ReadyFile<'a> {
+    /// Makes a file of these bytes beside the path, and says what the old file has that it hasn't.
+    fn new(
+        host: &Host<'a>,
+        path: &'a str,
+        bytes: &'a [u8],
+        acts: &mut Acts,
+    ) -> Result<ReadyFile<'a>, Problem>
+        requires { path.now ≢ codes "-" }
+        ensures path { IfOk result (λ file. file.path.now ≡ path.now) }
+        ensures cause { IfErr result (IsNotSaved path.now) }
+        ensures whole { IfOk result (λ file. IsOf bytes.now file.prepared) }
+        ensures does { MakesFile path.now bytes.now result acts.old.events acts.new.events }
+        ensures seen { ShowsSaved acts.old.events acts.new.events }
+    {
+        let mut log = HeldCalls::new();
+        let prepared = prepared(host, path, bytes, &mut log);
+        note_saved(acts, &log);
+        match prepared {
+            Ok(prepared) => {
+                tell(host, path, losses_lines(host.alloc(), path, prepared.losses()));
+                Ok(ReadyFile { path, prepared })
+            }
+            Err(error) => Err(not_saved(host, path, error)),
+        }
+    }
+
     /// Puts the file at its path.
     fn put(self, host: &Host<'_>, acts: &mut Acts) -> Result<(), Problem>
         ensures cause { IfErr result (IsNotSaved self.entry.path.now) }
+        ensures does { PutsFile self.entry result acts.old.events acts.new.events }
         ensures saves { IfOk result (λ _. SavesReady (Ready.File self.entry) acts.new.events) }
         ensures seen { ShowsSaved acts.old.events acts.new.events }
     {
@@ -210,23 +232,25 @@ impl ReadyFile<'_> {
     }
 }
 
-/// Says that a file was left beside a path.
-fn tell_left(host: &Host<'_>, path: &str, left: Option<PathBuf>) {
-    if let Some(left) = left {
-        let path = FileName(path);
-        let left = FileName(left.as_str());
-        let _ = eprintln!(host.rt; "{path}: {left} was left, and can be removed");
-    }
+/// That a file was left beside a path, if one was, in a line.
+fn left_line(alloc: Global, path: &str, left: Option<PathBuf>) -> Result<String, AllocError> {
+    let Some(left) = left else {
+        return Ok(String::new(alloc));
+    };
+    let path = FileName(path);
+    let left = FileName(left.as_str());
+    format!(in alloc; "{path}: {left} was left, and can be removed\n")
 }
 
 /// Why one of the files at two paths wasn't put, and that the other is left beside, where it is.
 fn not_both(host: &Host<'_>, first: &str, second: &str, why: NotBoth) -> Problem
     requires first { first.now ≢ codes "-" }
     requires second { second.now ≢ codes "-" }
+    ensures { IsEndOfBoth first.now second.now (Err why) (Err result) }
 {
     match why {
         NotBoth::First { refusal, left } => {
-            tell_left(host, second, left);
+            tell(host, second, left_line(host.alloc(), second, left));
             not_saved(host, first, refusal)
         }
         NotBoth::Second(refusal) => not_saved(host, second, refusal),
@@ -240,6 +264,7 @@ fn put_files(
     second: ReadyFile<'_>,
     acts: &mut Acts,
 ) -> Result<(), Problem>
+    ensures does { PutsFiles first.entry second.entry result acts.old.events acts.new.events }
     ensures saves { IsWhole (Ready.File first.entry) → IfOk result (λ _. SavesReady (Ready.File second.entry) acts.new.events) }
     ensures seen { ShowsSaved acts.old.events acts.new.events }
 {
@@ -264,13 +289,18 @@ pub(crate) fn put_two(
     second: Ready<'_>,
     acts: &mut Acts,
 ) -> Result<(), Problem>
+    ensures does { PutsBoth first.entry second.entry result acts.old.events acts.new.events }
     ensures saves { IsForPath first.entry → IsForPath second.entry → IsWhole first.entry → IfOk result (λ _. SavesReady second.entry acts.new.events) }
     ensures seen { IsForPath first.entry → IsForPath second.entry → ShowsSaved acts.old.events acts.new.events }
 {
     match (first, second) {
         (Ready::File(first), Ready::File(second)) => put_files(host, first, second, acts),
-        (first, second) => {
+        (Ready::File(first), Ready::Output(bytes)) => {
             first.put(host, acts)?;
+            print(host, bytes, acts)
+        }
+        (Ready::Output(bytes), second) => {
+            print(host, bytes, acts)?;
             second.put(host, acts)
         }
     }
@@ -280,6 +310,7 @@ pub(crate) fn put_two(
 /// terminal. A problem is one of this path, or that the host has no memory.
 pub fn save_to(host: &Host<'_>, output: &str, bytes: &[u8], acts: &mut Acts) -> Result<(), Problem>
     ensures cause { IfErr result (IsNotSaved output.now) }
+    ensures does { Saves output.now bytes.now result acts.old.events acts.new.events }
     ensures saves { output.now ≢ codes "-" → IfOk result (λ _. JustSaved bytes.now acts.new.events) }
     ensures seen { output.now ≢ codes "-" → ShowsSaved acts.old.events acts.new.events }
 {
@@ -294,6 +325,7 @@ fn put_ready<'a>(
     acts: &mut Acts,
 ) -> Result<(), Problem>
     ensures cause { IfErr result (IsNotSaved output.now) }
+    ensures does { Saves output.now bytes.now result acts.old.events acts.new.events }
     ensures saves { output.now ≢ codes "-" → IfOk result (λ _. JustSaved bytes.now acts.new.events) }
     ensures seen { output.now ≢ codes "-" → ShowsSaved acts.old.events acts.new.events }
 {

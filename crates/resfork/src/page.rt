@@ -58,8 +58,8 @@ fn add_file(
     ensures quiet { ReadsWord file.now acts.old.events acts.new.events }
 {
     let bytes = read::<Unknown>(host, file, acts)?;
-    let found = fork_found(host, &bytes)?;
-    let table = table_found(host, &found, &bytes)?;
+    let found = fork_found(host.alloc(), &bytes)?;
+    let table = table_found(host.alloc(), &found, &bytes)?;
     add_rows(host.alloc(), file, &bytes, table.rows.as_slice(), page)?;
     Ok(DONE)
 }

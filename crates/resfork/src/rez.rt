@@ -365,7 +365,7 @@ fn add_file(
     let path = format!(in alloc; "{folder}/{file}")?;
     let bytes = match read_front(host, path.as_str(), (most as u64).saturating_add(1), acts) {
         Ok(bytes) => bytes,
-        Err(error) => return Err(unread(host, path.as_str(), error)),
+        Err(error) => return Err(unread(host.alloc(), path.as_str(), error)),
     };
     let length = bytes.len();
     files

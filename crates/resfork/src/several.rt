@@ -5,7 +5,7 @@ ghost use Rattle.std.specs.Prelude.{◌≡◌, max};
 
 use file_acts::acts::{Acts, print, write_text};
 use file_acts::host::Host;
-use file_acts::message::{Problem, tell_inside};
+use file_acts::message::{Problem, inside_line, tell};
 use fork_report::each_line;
 use fork_words::asked::Titles;
 use mac_files::archive::Archive;
@@ -68,6 +68,6 @@ fn write_each(host: &Host<'_>, file: &str, lines: &[u8], acts: &mut Acts) -> Res
 /// Notes the archive in a file without resources, if there is one.
 pub fn note_archive(host: &Host<'_>, file: &str, archive: Option<Archive>) {
     if let Some(archive) = archive {
-        let _ = tell_inside(host, file, archive);
+        tell(host, file, inside_line(host.alloc(), file, archive));
     }
 }

@@ -168,6 +168,6 @@ fn answer_whole<W: World>(
 fn unanswered(host: &Host<'_>, request: &Request, failure: Failure, bytes: &[u8]) -> Problem {
     match (request, failure) {
         (Request::Get(wanted), Failure::NotFound) => Problem::of_missing(host.alloc(), wanted),
-        (_, failure) => refused_as(host, failure, bytes),
+        (_, failure) => refused_as(host.alloc(), failure, bytes),
     }
 }

@@ -57,8 +57,8 @@ fn use_table_in<U: TableUse>(
     ensures done { IfOk result (λ status. status ≡ DONE) }
     ensures quiet { U.only_reads table_use.now → ReadsNothing acts.old.events acts.new.events }
 {
-    let found = fork_found(host, bytes)?;
-    let table = table_found(host, &found, bytes)?;
+    let found = fork_found(host.alloc(), bytes)?;
+    let table = table_found(host.alloc(), &found, bytes)?;
     table_use.apply(host, bytes, &table, acts)
 }
 

@@ -156,8 +156,8 @@ fn copy_from<'a>(host: &Host<'_>, asked: &Copying<'a>, acts: &mut Acts) -> Resul
 {
     let from = asked.from;
     let bytes = of_file(from, read::<Unknown>(host, from, acts))?;
-    let found = of_file(from, fork_found(host, &bytes))?;
-    let table = of_file(from, table_found(host, &found, &bytes))?;
+    let found = of_file(from, fork_found(host.alloc(), &bytes))?;
+    let table = of_file(from, table_found(host.alloc(), &found, &bytes))?;
     copy_rows(host, asked, table.rows.as_slice(), acts)
 }
 
@@ -216,8 +216,8 @@ fn compare<'a>(host: &Host<'_>, asked: Comparison<'a>, acts: &mut Acts) -> Resul
 {
     let a = asked.a;
     let bytes = of_file(a, read::<Unknown>(host, a, acts))?;
-    let found = of_file(a, fork_found(host, &bytes))?;
-    let table = of_file(a, table_found(host, &found, &bytes))?;
+    let found = of_file(a, fork_found(host.alloc(), &bytes))?;
+    let table = of_file(a, table_found(host.alloc(), &found, &bytes))?;
     of_file(asked.b, compare_with(host, asked, &table, acts))
 }
 
@@ -232,8 +232,8 @@ fn compare_with(
     ensures quiet { ReadsWord asked.entry.b.now acts.old.events acts.new.events }
 {
     let bytes = read::<Unknown>(host, asked.b, acts)?;
-    let found = fork_found(host, &bytes)?;
-    let new = table_found(host, &found, &bytes)?;
+    let found = fork_found(host.alloc(), &bytes)?;
+    let new = table_found(host.alloc(), &found, &bytes)?;
     write_differences(host, asked, old, &new, acts)
 }
 
