@@ -129,8 +129,8 @@ chunks_back most sound is =
     let first : Chunk = record { name = codes "fmt "; body = format sound } in
     chunk_back (suc (suc most)) 102 109 116 32 (format sound) last (omega (arith, length-format sound))
     ∙ ap (λ (xs : List Chunk). first ∷ xs)
-      (ap (chunks_in (suc (suc most))) (sym (append-nil last))
-        ∙ chunk_back (suc most) 100 97 116 97 (samples_bytes sound.depth sound.samples) [] (omega (arith, all_low sound is)))
+    (ap (chunks_in (suc (suc most))) (sym (append-nil last))
+    ∙ chunk_back (suc most) 100 97 116 97 (samples_bytes sound.depth sound.samples) [] (omega (arith, all_low sound is)))
 
 form_back : (sound : Recording) → IsRecording sound → sound.rate < 2 ^ 32 → read_form (form sound) ≡ Some (wave sound)
 unfolding form
@@ -142,6 +142,6 @@ pub read_back : IsReadBack
 read_back sound is fast =
     ap (λ (file : List ℕ). read_form (all_of (codes "RIFF") (chunks_in 1 file))) (sym (append-nil (wav_of sound)))
     ∙ ap (λ (chunks : List Chunk). read_form (all_of (codes "RIFF") chunks))
-      (chunk_back zero 82 73 70 70 (form sound) [] (omega (arith, length-form sound, all_low sound is)))
+    (chunk_back zero 82 73 70 70 (form sound) [] (omega (arith, length-form sound, all_low sound is)))
     ∙ ap read_form (append-nil (form sound))
     ∙ form_back sound is fast

@@ -42,12 +42,7 @@ fn push_packet(samples: &mut Vec<u16>, bytes: &[u8], at: usize) -> Result<(), Al
 }
 
 /// The samples of so many packets, one packet after the other.
-fn unpacked(
-    alloc: Global,
-    bytes: &[u8],
-    start: usize,
-    count: usize,
-) -> Result<Vec<u16>, AllocError>
+fn unpacked(alloc: Global, bytes: &[u8], start: usize, count: usize) -> Result<Vec<u16>, AllocError>
     requires { start + 34 * count < 2 ^ 40 }
     ensures { IfOk result (λ samples. samples.items ≡ map (λ place. packed_at bytes.now start (place / 64) (place % 64)) (range_with_len 0 (64 * count))) }
 {

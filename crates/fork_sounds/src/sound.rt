@@ -110,12 +110,7 @@ fn recorded(alloc: Global, bytes: &[u8], source: Source) -> Result<Sound, AllocE
     ensures { IfOk result (λ sound. sound ≡ recorded source bytes.now) }
 {
     let samples = source.samples(alloc, bytes)?;
-    Ok(Sound::new(
-        source.rate,
-        source.channels,
-        source.coding.depth(),
-        samples,
-    ))
+    Ok(Sound::new(source.rate, source.channels, source.coding.depth(), samples))
 }
 
 /// The sound that a 'snd ' resource of format 1 or 2 is: that of its first command which plays samples (Inside Macintosh:

@@ -24,8 +24,8 @@ loop-place-preserved c =
     ∙ sym (state_step bytes at place) in
     record {
       samples =
-        goes_on (packet_sample bytes at) place c.args.samples.now.items c.loop-place.samples.items c.push.new.self.items c.next-state.result.level
-        c.loop-place.invariant.samples c.in_ok-push.ensures.items
-        (ap (λ (state : State). state.level) stepped);
+          goes_on (packet_sample bytes at) place c.args.samples.now.items c.loop-place.samples.items c.push.new.self.items c.next-state.result.level
+          c.loop-place.invariant.samples c.in_ok-push.ensures.items
+          (ap (λ (state : State). state.level) stepped);
       state = stepped;
     }

@@ -14,5 +14,5 @@ loop-packet-preserved c =
     let right : nat_lt 88 (c.word_at.result % 128) ≡ false = let low = c.if-word_at-gt88.false in grind (arith, nat_tests) in
     let own : wrong (head packet) ≡ false = ap (λ (word : ℕ). nat_lt 88 (word % 128)) (sym c.word_at.ensures) ∙ right in
     sym (ap (λ (heads : List ℕ). find wrong heads) (rest_more head count packet c.loop-packet-test.true)
-      ∙ passed wrong (head packet) (map head (range_with_len (packet + 1) (count - (packet + 1)))) own)
+    ∙ passed wrong (head packet) (map head (range_with_len (packet + 1) (count - (packet + 1)))) own)
     ∙ c.loop-packet.invariant
