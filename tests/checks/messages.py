@@ -17,13 +17,13 @@ NO_TEXT = re.compile(r"b?'(?:\\.|[^'\\])'|^\s*//.*$", re.M)
 
 
 def crates():
-    """The crates that resfork is made of, but for that of the calls' codes, and for that of pictures, whose faults aren't printed."""
+    """The crates that resfork is made of, but for that of the calls' codes, and for those of pictures and of types, whose faults aren't printed."""
     with open(os.path.join(TOP, "crates.txt"), encoding="utf-8") as file:
         lines = {name.split()[0]: needed.split() for name, _, needed in (line.partition(":") for line in file if ":" in line)}
     found = {"resfork"}
     while more := {it for name in found for it in lines[name] if it in lines} - found:
         found |= more
-    return sorted(found - {"mac_base", "fork_pictures"})
+    return sorted(found - {"mac_base", "fork_pictures", "res_types"})
 
 
 def plain(text):

@@ -46,6 +46,8 @@ ROWS = {
         "input twice": "the standard input can be read once: name a file in place of one -",
         "input changed": "what is read from the standard input is written to the file that -o names",
         "no one output": "name one file: a new one, which is written (rez: --output OUT), or by --into FILE one that is there, whose other resources stay",
+        "no put": "-o, --backup, -n and -q go with --put LINES",
+        "put input": "--put changes a file that is there, and the standard input is none",
         "into input": "--into names a file that is there, and the standard input is none",
         "no into": "--backup, --replace and --skip go with --into FILE",
         "terminal": "the bytes of a resource aren't for a terminal: name a file with -o OUT, or pipe them on",
@@ -153,6 +155,16 @@ ROWS = {
         "map later": "the comment with the map's bytes is read only where it begins the text: move it there, or remove it",
         "apart": "{resource} is apart from the other resources of its type: put those of one type together",
         "not UTF-8": "{file} is no UTF-8 text",
+        # lines of texts
+        "no Roman letter": "MacRoman has no such letter: write another one",
+        "no type in line": "a type of one to four characters is expected, as MENU",
+        "no place": "title, short, long, name, a number as [1], or a text in double quotes is expected",
+        "no quoted text": "a text in double quotes is expected",
+        "no character": "a character, \\n for the end of a line, \\t, \\\", \\\\, \\x and two digits, or the quote at the end is expected",
+        "no line's end": "the end of the line is expected after the text",
+        "no such text": "the file has no such text: remove the line",
+        "text again": "a line before is for this text or for one after it: each text has one line, in the order of the file",
+        "text unfit": "the resource can't have this text: all but that of a TEXT have 255 letters at most, and an item of a menu has one at least",
         # folders of unpack
         "no manifest": "it isn't what unpack writes: {fault}",
         "no member": "it isn't what unpack writes: `{member}` is missing, or isn't such as unpack writes",
@@ -223,6 +235,7 @@ ROWS = {
     },
     # what comes with any status, and words that others have in them
     None: {
+        "odd bytes": "{resource}: its bytes aren't of this type, and its texts aren't shown",
         "written": "{tally} can be read, and are written to {file}",
         "left beside": "{file} was left, and can be removed",
         "not in": "not in {file}: {things}",

@@ -5,6 +5,7 @@ use Rattle.fork_change.specs.declared.refusal.Refusal.TheVariants as edit
 use Rattle.fork_folder.specs.declared.rows.PackFault.TheVariants as pack
 use Rattle.fork_report.specs.declared.refusal.Refusal.TheVariants as refusal
 use Rattle.fork_rez.specs.declared.fault.RezFault.TheVariants as rez
+use Rattle.fork_texts.specs.declared.fault.TextFault.TheVariants as texts
 use Rattle.fork_view.specs.declared.view.NotShown.TheVariants as sight
 use Rattle.fork_words.specs.declared.asked.NotAsked.{NotAsked}
 use Rattle.fork_words.specs.declared.asked.NotAsked.TheVariants as words
@@ -50,6 +51,7 @@ is_of_fork (problem.Refused (refusal.Show (failure.Write fault))) = false
 is_of_fork (problem.Refused told) = true
 is_of_fork (problem.Salvageable told) = true
 is_of_fork (problem.Rez (rez.Refused fault)) = true
+is_of_fork (problem.Texts (texts.Refused fault)) = true
 is_of_fork (problem.Pack pack.HostFull) = false
 is_of_fork (problem.Pack fault) = true
 is_of_fork (problem.Image told) = true

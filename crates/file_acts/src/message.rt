@@ -17,6 +17,7 @@ use fork_list::letters::Letters;
 use fork_list::{KindText, Quoted};
 use fork_report::{InsideNote, Opening, Operand, Refusal, can_be_salvaged};
 use fork_rez::fault::RezFault;
+use fork_texts::fault::TextFault;
 use fork_view::{NotShown, NotUnpacked, Untold};
 use fork_words::asked::NotAsked;
 use mac_base::error::HostFull;
@@ -112,6 +113,9 @@ pub enum Problem {
     /// A text says no resources.
     #[error("{0}")]
     Rez(RezFault),
+    /// Lines aren't those of the texts of a file.
+    #[error("{0}")]
+    Texts(TextFault),
     /// A folder isn't one to which resources were unpacked.
     #[error("{0}")]
     Pack(PackFault),
@@ -270,6 +274,7 @@ impl Problem {
             | Problem::Untold(_) => BAD_WORDS,
             Problem::Pack(PackFault::HostFull) => CANT_GO_ON,
             Problem::Rez(RezFault::Refused(_))
+            | Problem::Texts(TextFault::Refused(_))
             | Problem::Pack(_)
             | Problem::Salvageable(_)
             | Problem::Image(_)

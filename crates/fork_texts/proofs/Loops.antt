@@ -34,11 +34,6 @@ module _ (stop : Stop) (n i : ℕ) (so_far rest : List ℕ) (total : Result (Lis
       let turn : run_at stop (n - i) so_far rest ≡ Err fault = rw (left, other, read) refl in
       sym is ∙ turn
 
-  -- no turn is left
-  pub no_turn : n - i ≡ 0 → total ≡ fails rest why.Character
-  unfolding run_at
-  no_turn none = let turn : run_at stop (n - i) so_far rest ≡ fails rest why.Character = rw none refl in sym is ∙ turn
-
 -- another line
 pub next_line : (n i : ℕ) (so_far : List Line) (rest after : List ℕ) (line : Line) (total : Result (List Line) Fault) → i < n → rest ≢ [] → lines_from (n - i) so_far rest ≡ total
     → line_at rest ≡ Ok (line, after) → lines_from (n - (i + 1)) (so_far ++ line ∷ []) (after_lines after) ≡ total

@@ -1,5 +1,5 @@
 -- What becomes of rows, one after the other.
-use Rattle.std.proofs.Common.{◌≡◌, ◌≢◌, ℕ, ◌+◌, List, [], ◌∷◌, ◌++◌, drop, Option, None, Some, refl, sym, ap, ◌∙◌, subst, append_assoc, append-nil}
+use Rattle.std.proofs.Common.{◌≡◌, List, [], ◌∷◌, ◌++◌, drop, Option, None, Some, refl, sym, ap, ◌∙◌, subst, append_assoc, append-nil}
 use Rattle.fork_bytes.specs.Rows.{Row}
 use Rattle.fork_texts.specs.declared.fault.ReadError.{ReadError}
 use Rattle.fork_texts.specs.declared.fault.ReadError.TheVariants as errors
@@ -17,9 +17,6 @@ joined done (Some row) others = sym (append_assoc done (row ∷ []) others)
 pub record IsAt (types : List TextType) (rows : List Row) (lines : List Line) (rest : List Row) (left : List Line) (done : List Row) : Type 0 where
   pub goes_on : (others : List Row) → Puts types rest left others → Puts types rows lines (done ++ others)
   pub all : (whole : List Row) → Puts types rows lines whole → (others : List Row) × Puts types rest left others
-
-pub started : (types : List TextType) (rows : List Row) (lines : List Line) → IsAt types rows lines rows lines []
-started types rows lines = record { goes_on = λ others puts. puts; all = λ whole puts. (whole, puts) }
 
 module _ (types : List TextType) (rows : List Row) (lines : List Line) (row : Row) (rest : List Row) (left : List Line) (done : List Row)
     (at : IsAt types rows lines (row ∷ rest) left done) where
@@ -48,8 +45,3 @@ pub ended : (types : List TextType) (rows : List Row) (lines left : List Line) (
 ended types rows lines left done at none =
     let P : List Row → Type 0 = λ t. Puts types rows lines t in
     subst P (append-nil done) (at.goes_on [] (none, refl))
-
--- and a line is left
-pub line_left : (types : List TextType) (rows : List Row) (lines left : List Line) (done : List Row) → IsAt types rows lines [] left done → left ≢ []
-    → (changed : List Row) → ¬ Puts types rows lines changed
-line_left types rows lines left done at some changed puts = some (at.all changed puts).1.0

@@ -49,7 +49,3 @@ at_self entry =
     and_from (bytes_eq entry.what.kind entry.what.kind && int_eq entry.what.id entry.what.id) (same_place entry.place entry.place)
     (and_from (bytes_eq entry.what.kind entry.what.kind) (int_eq entry.what.id entry.what.id) ((bytes_eq-Decides entry.what.kind entry.what.kind).1 refl) ((Decides-int_eq entry.what.id entry.what.id).1 refl))
     (place_self entry.place)
-
--- and has its text
-pub same_self : (entry : Entry) → (is_at entry entry && bytes_eq entry.text entry.text) ≡ true
-same_self entry = and_from (is_at entry entry) (bytes_eq entry.text entry.text) (at_self entry) ((bytes_eq-Decides entry.text entry.text).1 refl)

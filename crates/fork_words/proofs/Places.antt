@@ -7,3 +7,8 @@ use Rattle.std.specs.Borrow.{Bor}
 pub named_some : (found : Option (Bor (List ℕ))) (name : Option (List ℕ)) → option_map (λ it. it.now) found ≡ name → is_some name ≡ true → is_some found ≡ true
 named_some None name is some = ap is_some is ∙ some
 named_some (Some it) name is some = refl
+
+-- and only that
+pub named_same : (found : Option (Bor (List ℕ))) (name : Option (List ℕ)) → option_map (λ it. it.now) found ≡ name → is_some found ≡ is_some name
+named_same None name is = ap is_some is
+named_same (Some it) name is = ap is_some is

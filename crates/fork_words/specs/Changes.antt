@@ -8,6 +8,7 @@ use Rattle.fork_words.specs.Given.{is_given, text_of, word_of, word_or, words_of
 use Rattle.fork_words.specs.Kinds.{NameKinds, NamesKind}
 use Rattle.fork_words.specs.Named.{Each, IsAttributeChange, IsNameChange, NameChoices, NamesIdOf, NamesName, NamesResource}
 use Rattle.fork_words.specs.Places.{IsPack, IsRez, IsTarget, collision_of}
+use Rattle.fork_words.specs.Texts.{IsListing, IsPutTexts}
 use Rattle.fork_words.specs.declared.work.Comparison.{Comparison}
 use Rattle.fork_words.specs.declared.work.Conversion.{Conversion}
 use Rattle.fork_words.specs.declared.work.Copying.{Copying}
@@ -99,3 +100,5 @@ AsksFor command found (work.Derez asked) = (command ≡ codes "derez") × IsDere
 AsksFor command found (work.Rez asked) = (command ≡ codes "rez") × IsRez found asked
 AsksFor command found (work.Pack asked) = (command ≡ codes "pack") × IsPack found asked
 AsksFor command found (work.Convert asked) = (command ≡ codes "convert") × IsConvert found asked
+AsksFor command found (work.Texts file) = (command ≡ codes "texts") × IsListing found file.now
+AsksFor command found (work.PutTexts asked) = (command ≡ codes "texts") × IsPutTexts found asked

@@ -31,3 +31,5 @@ ReadsOnce (work.Convert asked) = IsInput asked.target.file.now → option_map (�
 ReadsOnce (work.Derez asked) = ⊤
 ReadsOnce (work.Rez asked) = IsNoInput asked.place
 ReadsOnce (work.Pack asked) = IsNoInput asked.place
+ReadsOnce (work.Texts file) = ⊤
+ReadsOnce (work.PutTexts asked) = ¬ IsInput asked.target.file.now

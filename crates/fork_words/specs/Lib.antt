@@ -6,5 +6,6 @@ pub mod Asks
 pub mod Sizes
 pub mod Endings
 pub mod Places
+pub mod Texts
 pub mod Changes
 pub mod Asked

@@ -37,6 +37,7 @@ Examples:
   resfork derez Game.rsrc > Game.r     as a text; resfork rez Game.r -o New.rsrc
   resfork rez Some.r --into Game.rsrc --replace
                                        the resources of a text, and the file's others
+  resfork texts Game.rsrc > de.txt     all texts; resfork texts Game.rsrc --put de.txt
   resfork convert Game.bin Game.hqx --to binhex --lossy
                                        in another container
 
@@ -205,6 +206,13 @@ const COMMANDS: &[CommandText] = &[
         ),
     },
     CommandText {
+        name: "texts",
+        about: "Writes all texts as lines, or puts lines in their place",
+        long_about: Some(
+            "Writes the texts of strings, texts, menus, dialogs, windows, controls and versions, and the names of resources: a line for each, with type, id, place, and the text in double quotes, in UTF-8. \\n is the end of a line, \\t a tab, \\xHH any other byte. With --put such lines take the place of the texts of a file: lines may be left out",
+        ),
+    },
+    CommandText {
         name: "convert",
         about: "Writes a file in another container",
         long_about: Some(
@@ -302,11 +310,13 @@ const WORDS: &[Word] = &[
         "The file that a fork with all resources that can be read is written to"),
     word!("show" "page", "output", Form::Short('o', "output"), Values::One("OUT");
         "The file that is written, in place of the standard output"),
-    word!("put" "rm" "set" "cp", "output", Form::Short('o', "output"), Values::One("OUT");
+    word!("put" "rm" "set" "cp" "texts", "output", Form::Short('o', "output"), Values::One("OUT");
         "The file that is written, in place of the one that is read"),
+    word!("texts", "put", Form::Long("put"), Values::One("LINES");
+        "The file with the lines that take the place of texts; - is the standard input"),
     word!("rez", "output", Form::Short('o', "output"), Values::One("OUT");
         "The file that is written"),
-    word!("put" "rm" "set" "cp" "pack" "rez", "backup", Form::Long("backup"), Values::Flag, rival: Some("output");
+    word!("put" "rm" "set" "cp" "pack" "rez" "texts", "backup", Form::Long("backup"), Values::Flag, rival: Some("output");
         "Keeps the old file as FILE~"),
     word!("convert", "to", Form::Long("to"), Values::One("KIND"), is_required: true;
         "The container: raw, appledouble, applesingle, macbinary or binhex"),
@@ -316,15 +326,15 @@ const WORDS: &[Word] = &[
         "The file's name, as ls shows names; else its own, or that of IN where OUT needs one"),
     word!("convert", "lossy", Form::Long("lossy"), Values::Flag;
         "Leaves out what the container can't hold, and names it"),
-    word!("put" "rm" "set" "cp" "pack" "rez" "convert", "dry", Form::Short('n', "dry-run"), Values::Flag;
+    word!("put" "rm" "set" "cp" "pack" "rez" "texts" "convert", "dry", Form::Short('n', "dry-run"), Values::Flag;
         "Says what would be done, and writes nothing"),
-    word!("put" "rm" "set" "cp" "pack" "rez" "convert", "quiet", Form::Short('q', "quiet"), Values::Flag;
+    word!("put" "rm" "set" "cp" "pack" "rez" "texts" "convert", "quiet", Form::Short('q', "quiet"), Values::Flag;
         "Doesn't say what was done"),
-    word!("ls" "get" "info" "check" "salvage" "show" "unpack" "page" "put" "rm" "set" "cp" "diff" "pack" "derez" "rez" "convert", "limit", Form::Long("limit"), Values::One("SIZE");
+    word!("ls" "get" "info" "check" "salvage" "show" "unpack" "page" "put" "rm" "set" "cp" "diff" "pack" "derez" "rez" "texts" "convert", "limit", Form::Long("limit"), Values::One("SIZE");
         "Refuses a file of more bytes than this: a number, which K, M or G after it counts in 1024s; else 1G"),
     word!("ls" "info" "check" "page", "file", Form::Operand, Values::Many("FILE"), is_required: true;
         "The files; - is the standard input"),
-    word!("get" "salvage" "show" "unpack" "put" "rm" "set" "derez" "rez", "file", Form::Operand, Values::One("FILE"), is_required: true;
+    word!("get" "salvage" "show" "unpack" "put" "rm" "set" "derez" "rez" "texts", "file", Form::Operand, Values::One("FILE"), is_required: true;
         "The file; - is the standard input"),
     word!("get" "put" "rm", "type", Form::Operand, Values::One("TYPE"), is_required: true;
         "The resource's type, as ls shows it (STR is 'STR ')"),

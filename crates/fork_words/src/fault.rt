@@ -38,6 +38,12 @@ pub enum Fault {
     /// An option goes with a file that is there, and a new one is named.
     #[error("--backup, --replace and --skip go with --into FILE")]
     NotInto,
+    /// What says how a file is changed is there, and no lines are put.
+    #[error("-o, --backup, -n and -q go with --put LINES")]
+    NotPut,
+    /// Texts are put into the standard input.
+    #[error("--put changes a file that is there, and the standard input is none")]
+    PutInput,
     /// A name is too long.
     #[error("a name has at most 255 bytes")]
     LongName,

@@ -6,6 +6,7 @@ mod command;
 mod ending;
 pub mod fault;
 pub mod size;
+pub mod texts;
 pub mod work;
 
 /// The word for the standard input, in place of a file's name.

@@ -13,6 +13,7 @@ ghost use Rattle.fork_words.specs.Places.{IsNoPlace, IsPlace, IsTarget, collisio
 use crate::INPUT;
 use crate::asked::{NotAsked, flag, form_of, kind_named, kinds_named, name_named, word, word_or};
 use crate::fault::Fault;
+use crate::texts::{PuttingTexts, texts};
 use bitflags::Flags;
 use clap::ArgMatches;
 use fork_change::row::{AttributeChange, Change, NameChange, ResourceId};
@@ -158,6 +159,10 @@ pub enum Work<'a> {
     Pack(Packing<'a>),
     /// To write a file in another container.
     Convert(Conversion<'a>),
+    /// To list the texts of a file.
+    Texts(&'a str),
+    /// To put lines in the place of the texts of a file.
+    PutTexts(PuttingTexts<'a>),
 }
 
 /// What the words after this command ask for.
@@ -180,6 +185,7 @@ pub(crate) fn work_of<'a>(
         "rez" => Ok(rez(matches)?),
         "pack" => Ok(pack(matches)?),
         "convert" => convert(alloc, matches),
+        "texts" => Ok(texts(matches)?),
         _ => Err(NotAsked::Fault(Fault::NoCommand)),
     }
 }
@@ -297,7 +303,7 @@ fn changed_target<'a>(
 }
 
 /// Where a file goes.
-fn target_of<'a>(matches: &ArgMatches<'a>, file: &'a str) -> Target<'a>
+pub(crate) fn target_of<'a>(matches: &ArgMatches<'a>, file: &'a str) -> Target<'a>
     ensures file { result.file ≡ file.entry }
     ensures target { IsTarget (found_of matches.now) file.entry.now result }
 {

@@ -28,6 +28,8 @@ writes_nothing (work.Derez asked) = true
 writes_nothing (work.Rez asked) = is_dry_place asked.place
 writes_nothing (work.Pack asked) = is_dry_place asked.place
 writes_nothing (work.Convert asked) = asked.target.is_dry
+writes_nothing (work.Texts file) = true
+writes_nothing (work.PutTexts asked) = asked.target.is_dry
 
 -- what is salvaged is only listed
 abbrev pub only_lists : Salvage → Bool
@@ -51,6 +53,7 @@ only_reads (asked.Tell text) = true
 abbrev pub ReadsWork : Work → Log → Log → Type 0
 ReadsWork (work.Compare asked) = ReadsBothWords asked.a.now asked.b.now
 ReadsWork (work.Derez asked) = ReadsWord asked.file.now
+ReadsWork (work.Texts file) = ReadsWord file.now
 ReadsWork other = WritesNothing
 
 -- the same of whatever is asked for
@@ -80,6 +83,8 @@ ChangesFiles (work.Derez asked) = ⊥
 ChangesFiles (work.Rez asked) = IsForPlace asked.place
 ChangesFiles (work.Pack asked) = IsForPlace asked.place
 ChangesFiles (work.Convert asked) = IsForNew asked
+ChangesFiles (work.Texts file) = ⊥
+ChangesFiles (work.PutTexts asked) = IsForFile asked.target
 
 -- the same of whatever is asked for
 abbrev pub ChangesAsked : Asked → Type 0

@@ -16,6 +16,7 @@ mod salvage;
 mod several;
 mod show;
 mod table_use;
+mod texts;
 mod unlisted;
 mod view;
 mod work;

@@ -10,6 +10,7 @@ ghost use Rattle.fork_saves.specs.Changing.{IsForFile, IsForNew};
 ghost use Rattle.resfork.specs.Running.{ChangesFiles, IsForPlace, ReadsWork, is_dry_place, writes_nothing};
 
 use crate::rez::{Like, derez_file, pack_folder, rez_file};
+use crate::texts::{list_texts, put_texts};
 use file_acts::acts::{Acts, look_at, write_text};
 use file_acts::found::{fork_found, table_found};
 use file_acts::host::Host;
@@ -83,6 +84,8 @@ fn try_work<'a>(host: &Host<'_>, work: Work<'a>, acts: &mut Acts) -> Result<u8, 
         Work::Rez(asked) => rez_file(host, asked, acts),
         Work::Pack(asked) => pack(host, asked, acts),
         Work::Convert(asked) => of_file(asked.target.file, convert_file(host, &asked, acts)),
+        Work::Texts(file) => of_file(file, list_texts(host, file, acts)),
+        Work::PutTexts(asked) => put_texts(host, asked, acts),
     }
 }
 

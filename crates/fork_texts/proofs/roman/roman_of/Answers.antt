@@ -1,4 +1,4 @@
-use Rattle.std.proofs.Common.{◌≡◌, ◌++◌, ◌<◌, [], ◌∷◌, sym, ap, ◌∙◌, List, ℕ, append_assoc, arith}
+use Rattle.std.proofs.Common.{◌≡◌, ◌++◌, ◌<◌, sym, ap, ◌∙◌, List, ℕ, append_assoc, arith}
 use Rattle.std.specs.Prelude.{encode_utf8}
 use Rattle.fork_list.specs.Roman.{roman_char, roman_text}
 use Rattle.fork_texts.proofs.Romans.{text_more}

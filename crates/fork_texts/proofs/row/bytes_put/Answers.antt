@@ -1,4 +1,4 @@
-use Rattle.std.proofs.Common.{◌≡◌, List, ℕ, Option, Some, IfOk, subst}
+use Rattle.std.proofs.Common.{List, ℕ, Option, IfOk, subst}
 use Rattle.std.specs.Prelude.{IfNone}
 use Rattle.res_types.specs.Bits.{byte_bits}
 use Rattle.res_types.specs.Meaning.{decode}
