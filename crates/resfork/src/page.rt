@@ -48,12 +48,7 @@ fn add_files(host: &Host<'_>, files: &[&str], page: &mut Vec<u8>, acts: &mut Act
 }
 
 /// Adds the file of this name to a page.
-fn add_file(
-    host: &Host<'_>,
-    file: &str,
-    page: &mut Vec<u8>,
-    acts: &mut Acts,
-) -> Result<u8, Problem>
+fn add_file(host: &Host<'_>, file: &str, page: &mut Vec<u8>, acts: &mut Acts) -> Result<u8, Problem>
     ensures done { IfOk result (λ status. status ≡ DONE) }
     ensures quiet { ReadsWord file.now acts.old.events acts.new.events }
 {
