@@ -305,7 +305,7 @@ pub fn file_at_fault<'a>(like: Option<&'a str>, source: &'a str, problem: &Probl
 }
 
 /// Changes the resources of a file, unless it is in a disk image.
-fn change(
+pub fn change(
     host: &Host<'_>,
     target: &Target<'_>,
     from: &[Row<'_>],
