@@ -9,6 +9,7 @@ use Rattle.script_run.specs.declared.end.RunEnd.{RunEnd}
 use Rattle.script_run.specs.declared.end.RunEnd.TheVariants.{Finished, ScriptFault, NoMemory, ReadFault, WriteFault}
 use Rattle.script_run.specs.Counting.{RoseByOne}
 use Rattle.script_run.specs.End.{status_of}
+use Rattle.script_run.specs.Starting.{MayWantMemory}
 use Rattle.script_run.specs.Line.{start_of}
 use Rattle.script_run.specs.Run.{Ends, IsProperFront, no_memory_text, Tells as EndTells}
 use Rattle.script_run.specs.declared.moments.Moment.{Moment}
@@ -112,9 +113,9 @@ because (ScriptFault line wrong) read_failed write_failed read write = tt
 
 module _ {S : Type 0} (store : Ghosts S) (sizes : ZoneSizes) (done : Done) where
   -- a run over the stores that were opened
-  pub ran_over : (stores : List S) (noted : List (Moment S)) (left : List S) (end : RunEnd) → (end ≡ ReadFault → done.read_failed) → (end ≡ WriteFault → done.told.write_failed) → Ends store (start_of sizes stores) done.input end done.told.written noted left
+  pub ran_over : (stores : List S) (noted : List (Moment S)) (left : List S) (end : RunEnd) → (end ≡ ReadFault → done.read_failed) → (end ≡ WriteFault → done.told.write_failed) → (end ≡ NoMemory → MayWantMemory done.input done.given) → Ends store (start_of sizes stores) done.input end done.told.written noted left
       → done.told.status ≡ status_of end → SaysWhy end done.told.silent done.told.tell_failed done.told.said → RunsOver store sizes stores noted left done
-  ran_over stores noted left end read write ends status says = record { end = end; ends = ends; because = because end done.read_failed done.told.write_failed read write; status = status; says = says }
+  ran_over stores noted left end read write wants ends status says = record { end = end; ends = ends; because = because end done.read_failed done.told.write_failed read write; wants = wants; status = status; says = says }
 
 naming_alone : (journals : List Text) → journals ≡ [] → naming_of journals ≡ Repeated
 naming_alone [] none = refl

@@ -13,6 +13,7 @@ use Rattle.script_run.specs.Counting.{Counting, Gave, RoseByOne, Took}
 use Rattle.script_run.specs.End.{status_of}
 use Rattle.script_run.specs.Line.{start_of}
 use Rattle.script_run.specs.Run.{Ends, IsProperFront, no_memory_text}
+use Rattle.script_run.specs.Starting.{MayWantMemory}
 use Rattle.script_run.specs.Turns.{Noted}
 use Rattle.script_run.specs.declared.moments.Moment.{Moment}
 use Rattle.macheap.specs.declared.moments.AnyMoments.{AnyMoments}
@@ -161,6 +162,7 @@ pub record RunsOver {S : Type 0} (store : Ghosts S) (sizes : ZoneSizes) (stores 
   pub end : RunEnd
   pub ends : Ends store (start_of sizes stores) done.input end done.told.written noted left
   pub because : Because end done.read_failed done.told.write_failed
+  pub wants : end ≡ NoMemory → MayWantMemory done.input done.given
   pub status : done.told.status ≡ status_of end
   pub says : SaysWhy end done.told.silent done.told.tell_failed done.told.said
 

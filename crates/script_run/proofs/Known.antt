@@ -1,9 +1,10 @@
 -- What several reads and writes give and take.
-use Rattle.std.proofs.Common.{◌≡◌, ℕ, ◌-◌, ◌<◌, ◌≤◌, arith, Bool, take, drop, length, length-drop, List, [], ◌++◌, Option, Some, None, unwrap_or, refl, sym, ap, ◌∙◌, append_assoc, length-append}
+use Rattle.std.proofs.Common.{◌≡◌, ◌≢◌, ◌∷◌, inl, inr, ℕ, ◌-◌, ◌<◌, ◌≤◌, arith, Bool, take, drop, length, length-drop, List, [], ◌++◌, Option, Some, None, unwrap_or, refl, sym, ap, ◌∙◌, append_assoc, length-append}
 use Rattle.std.specs.Io.KnownBytes.{Appends, Consumes, IsAtEnd}
 use Rattle.script_text.specs.Script.{max_script}
 use Rattle.std.specs.Prelude.{◌&&◌, ◌==◌, not}
 use Rattle.script_run.specs.Counting.{Counting, Gave, Took, counted, is_empty}
+use Rattle.script_run.specs.Starting.{MayWantMemory}
 use Rattle.std.proofs.lemmas.Bool.{ne_eqb}
 use Rattle.std.proofs.lemmas.List.{append-nil, take-append-drop}
 use Rattle.std.proofs.Math.Seq.{take-length}
@@ -70,6 +71,15 @@ pub read_more : (a b : Option (List ℕ)) (text : List ℕ) → max_script < len
 read_more None b text long p = long
 read_more (Some xs) None text long p = absurd p
 read_more (Some xs) (Some ys) text long p = rw p (omega (arith, length-append text ys))
+
+-- where all of the input was given, some of it was, or it has none
+pub all_given : (input given : List ℕ) → given ≡ input → MayWantMemory input given
+all_given input [] is = inl (sym is)
+all_given input (byte ∷ given) is = inr (λ none. cc)
+
+pub some_given : (given : List ℕ) → max_script < length given → given ≢ []
+some_given [] long none = absurd (omega (arith, long))
+some_given (byte ∷ given) long none = cc
 
 -- a write that took something counts as no failure
 pub taken-counts : (n before now : ℕ) (bytes : List ℕ) → 0 < n → now ≡ counted (n == 0 && not (is_empty bytes)) before → now ≡ before

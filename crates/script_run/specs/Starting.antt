@@ -1,5 +1,5 @@
 -- What is ready before the first line of a script is run.
-use Rattle.std.specs.Prelude.{◌≡◌, ◌⊎◌, ℕ, List, [], Result, Ok, Err, Vec, ⊤}
+use Rattle.std.specs.Prelude.{◌≡◌, ◌≢◌, ◌⊎◌, ℕ, List, [], Result, Ok, Err, Vec, ⊤}
 use Rattle.std.specs.Global.{Global}
 use Rattle.script_text.specs.Script.{IsScript, IsFaultAt}
 use Rattle.script_lang.specs.Text.{fault_text}
@@ -20,6 +20,10 @@ IsNoScript input other = ⊤
 abbrev pub Reads : List ℕ → Result (Vec ℕ Global) NoScript → Type 0
 Reads input (Ok text) = text.items ≡ input
 Reads input (Err fault) = IsNoScript input fault
+
+-- memory may be wanted for a script once some of its bytes were given; and for one of no bytes, for what each run takes
+abbrev pub MayWantMemory : List ℕ → List ℕ → Type 0
+MayWantMemory input given = (input ≡ []) ⊎ (given ≢ [])
 
 -- what is ready for this input: its script, or why not
 abbrev pub IsReady : List ℕ → Result Ready NoScript → Type 0

@@ -2,7 +2,7 @@
 
 ghost use Rattle.std.specs.Prelude.{◌≡◌, ◌≢◌, ℕ, List, Err, IsErrOf, unwrap_or};
 ghost use Rattle.script_run.specs.Counting.{Gave, RoseByOne};
-ghost use Rattle.script_run.specs.Starting.{Reads};
+ghost use Rattle.script_run.specs.Starting.{MayWantMemory, Reads};
 ghost use Rattle.script_run.specs.declared.reading.NoScript.TheVariants as why;
 
 use crate::counted::Counted;
@@ -43,7 +43,8 @@ impl From<HostFull> for NoScript {
 pub fn read_script<R: Read>(alloc: Global, reader: &mut Counted<R>) -> Result<Vec<u8>, NoScript>
     // The input is the bytes that the reader says it has; where it doesn't say, those that it gave.
     ensures read { (given : List ℕ) × Gave R.remaining reader.old given reader.new
-        × Reads (unwrap_or (R.remaining reader.old.inner) given) result }
+        × Reads (unwrap_or (R.remaining reader.old.inner) given) result
+        × (result ≢ Err NoScript.ReadFault → MayWantMemory (unwrap_or (R.remaining reader.old.inner) given) given) }
     ensures fault { IsErrOf result NoScript.ReadFault → RoseByOne reader.old.failures reader.new.failures }
     ensures no_fault { result ≢ Err NoScript.ReadFault → reader.new.failures ≡ reader.old.failures }
 {

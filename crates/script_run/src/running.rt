@@ -11,7 +11,7 @@ ghost use Rattle.script_run.specs.Line.{start_of};
 ghost use Rattle.script_run.specs.Recovery.{RunRecovers};
 ghost use Rattle.script_run.specs.Run.{Ends, Tells};
 ghost use Rattle.script_run.specs.Seen.{KeepsSeen, StartsOn};
-ghost use Rattle.script_run.specs.Starting.{TellsNoScript};
+ghost use Rattle.script_run.specs.Starting.{MayWantMemory, TellsNoScript};
 ghost use Rattle.script_run.specs.Turns.{Notes, stores_of};
 
 use crate::counted::Counted;
@@ -47,7 +47,8 @@ pub fn run<S: ForkStore, R: Read, W: Write>(
     // line's text was written once its call was done, and before the next line began: so say the moments that were noted.
     ensures ends { (given : List ℕ) × (written : List ℕ) × Gave R.remaining reader.old given reader.new × Took W.contents writer.old written writer.new
         × Notes writer.old.passed moments.old moments.new
-        (λ noted. Ends S.ForkStore (start_of spec stores.items) (unwrap_or (R.remaining reader.old.inner) given) result.0 written noted result.1.items) }
+        (λ noted. Ends S.ForkStore (start_of spec stores.items) (unwrap_or (R.remaining reader.old.inner) given) result.0 written noted result.1.items)
+        × (result.0 ≡ RunEnd.NoMemory → MayWantMemory (unwrap_or (R.remaining reader.old.inner) given) given) }
 
     // Whatever lines print is the replies of calls over which every handle and pointer shows the bytes last put there,
     // pointers and locked handles stay where they are, and blocks are lost and memFullErr is given only where they may.

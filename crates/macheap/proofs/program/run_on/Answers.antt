@@ -16,7 +16,7 @@ returns-clause-ends g c =
           w.0,
           e.3,
           w.1,
-          ran_over g.S.ForkStore c.args.spec _ c.args.stores.items notes.0 _ _ c.run-end.ensures.read_fault c.run-end.ensures.write_fault notes.2 c.status.ensures w.2,
+          ran_over g.S.ForkStore c.args.spec _ c.args.stores.items notes.0 _ _ c.run-end.ensures.read_fault c.run-end.ensures.write_fault e.5 notes.2 c.status.ensures w.2,
         ),
       ),
     )

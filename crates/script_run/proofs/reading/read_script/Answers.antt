@@ -1,7 +1,8 @@
-use Rattle.std.proofs.Common.{◌≡◌, ◌<◌, ◌++◌, ℕ, List, [], length, take, ap, ◌∙◌, subst, refl, arith, rules}
+use Rattle.std.proofs.Common.{◌≡◌, ◌<◌, ◌++◌, ℕ, List, [], length, take, ap, ◌∙◌, subst, refl, arith, rules, inr}
 use Rattle.std.proofs.lemmas.List.{append-nil}
 use Rattle.script_run.specs.Counting.{Gave}
-use Rattle.script_run.proofs.Known.{read_all, read_more, Gave-none, Gave-then}
+use Rattle.script_text.specs.Script.{max_script}
+use Rattle.script_run.proofs.Known.{all_given, read_all, read_more, some_given, Gave-none, Gave-then}
 use Rattle.script_run.proofs.reading.read_script.Goals as goal
 
 pub loop-buffer-init : goal.loop-buffer-init
@@ -18,12 +19,14 @@ returns-then-count-eq0-clause-read g c =
       text,
       subst (λ (t : List ℕ). Gave g.R.Read.remaining c.args.reader.now t c.read.new.self) (ap (λ (t : List ℕ). text ++ t) nothing ∙ append-nil text) both,
       whole,
+      λ read. all_given _ text whole,
     )
 
 pub returns-clause-read : goal.returns-clause-read
 returns-clause-read g c =
     let read = c.loop-buffer.invariant.read in
-    (c.loop-buffer.text.items, read, read_more _ _ _ (search rules) read.bytes)
+    let long : max_script < length c.loop-buffer.text.items = search rules in
+    (c.loop-buffer.text.items, read, read_more _ _ _ long read.bytes, λ read. inr (some_given _ long))
 
 pub loop-buffer-preserved : goal.loop-buffer-preserved
 loop-buffer-preserved g c =

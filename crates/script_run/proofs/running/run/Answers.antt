@@ -16,14 +16,16 @@ returns-in-Err-clause-ends g c =
     let r = c.read_script-read.ensures.read in
     let f = c.tell_no_script.ensures.ends in
     let input = unwrap_or (g.R.Read.remaining c.args.reader.now.inner) r.0 in
-    (r.0, f.0, r.1, f.1, ([], noted-none c.args.writer.now.passed c.args.moments.now, no_script_told g.S.ForkStore (start_of c.args.spec c.args.stores.items) input c.args.stores.items refl _ _ f.0 (c.in-Err.ensures.ready _ r.2) f.2))
+    (r.0, f.0, r.1, f.1, ([], noted-none c.args.writer.now.passed c.args.moments.now, no_script_told g.S.ForkStore (start_of c.args.spec c.args.stores.items) input c.args.stores.items refl _ _ f.0 (c.in-Err.ensures.ready _ r.2) f.2),
+     λ full. r.3 (λ same. let kept = c.in-Err.ensures.kept same in let ended = c.tell_no_script.ensures.read_fault.1 cc in cc))
 
 pub returns-in_default-clause-ends : goal.returns-in_default-clause-ends
 returns-in_default-clause-ends g c =
     let r = c.read_script-read.ensures.read in
     let f = c.tell_no_memory.ensures.ends in
     let input = unwrap_or (g.R.Read.remaining c.args.reader.now.inner) r.0 in
-    (r.0, f.0, r.1, f.1, ([], noted-none c.args.writer.now.passed c.args.moments.now, none_at_start g.S.ForkStore (start_of c.args.spec c.args.stores.items) input c.args.stores.items refl _ f.0 f.2))
+    (r.0, f.0, r.1, f.1, ([], noted-none c.args.writer.now.passed c.args.moments.now, none_at_start g.S.ForkStore (start_of c.args.spec c.args.stores.items) input c.args.stores.items refl _ f.0 f.2),
+     λ full. r.3 (λ same. let kept = c.in-Ok.ensures.kept same in absurd cc))
 
 pub returns-clause-ends : goal.returns-clause-ends
 returns-clause-ends g c =
@@ -34,7 +36,8 @@ returns-clause-ends g c =
     let start : c.new-machine.result ≡ start_of c.args.spec c.args.stores.items = c.new-machine.ensures.zone c.args.spec (ap (λ m. m.shape) c.in-Ok-create.ensures) (ap (λ m. m.heap) c.in-Ok-create.ensures) in
     let ready = subst (IsScript input) (sym c.deref.ensures.value) (c.in-Ok.ensures.ready input r.2) in
     let ends = rw start at (notes.2 input ready) in
-    (r.0, lines.0, r.1, lines.1, (notes.0, notes.1, subst (λ left. Ends g.S.ForkStore (start_of c.args.spec c.args.stores.items) input c.run_lines-end.result lines.0 notes.0 left) (sym c.into_stores.ensures) ends))
+    (r.0, lines.0, r.1, lines.1, (notes.0, notes.1, subst (λ left. Ends g.S.ForkStore (start_of c.args.spec c.args.stores.items) input c.run_lines-end.result lines.0 notes.0 left) (sym c.into_stores.ensures) ends),
+     λ full. r.3 (λ same. let kept = c.in-Ok.ensures.kept same in absurd cc))
 
 pub returns-in-Err-clause-read_fault : goal.returns-in-Err-clause-read_fault
 returns-in-Err-clause-read_fault g c = λ fault. c.read_script-read.ensures.fault (c.in-Err.ensures.fault (ap (λ (why : NoScript). Err why) (c.tell_no_script.ensures.read_fault.0 fault)))
