@@ -203,11 +203,17 @@ abbrev pub SpellsLess : Bool → List Token → List Token → Type 0
 SpellsLess false before after = before ≡ after
 SpellsLess true before after = before ≡ tokens.Mark marks.Minus ∷ tokens.Number 1 ∷ after
 
+-- `= $$CountOf (`
+abbrev pub StartsCountOf : List Token → List Token → Type 0
+StartsCountOf before after = (function : Bor (List ℕ)) × (before ≡ tokens.Mark marks.Equals ∷ tokens.Function function ∷ tokens.Mark marks.OpenParenthesis ∷ after) × IsSameWord function.now (codes "CountOf")
+
+-- how many elements the array of this name has, or one less
+abbrev pub SpellsCountOf : List ℕ → Bool → List Token → List Token → Type 0
+SpellsCountOf name less_one before after = (mid rest : List Token) × StartsCountOf before mid × StartsName name mid (tokens.Mark marks.CloseParenthesis ∷ rest) × SpellsLess less_one rest (tokens.Mark marks.Semicolon ∷ after)
+
 -- a number that counts the elements of the array of this name
 abbrev pub SpellsCount : Count → List ℕ → List Token → List Token → Type 0
-SpellsCount count name before after = (form : NumberForm) × (function : Bor (List ℕ)) × (mid rest : List Token)
-    × SpellsNumberType (width_of count.size) form before (tokens.Mark marks.Equals ∷ tokens.Function function ∷ tokens.Mark marks.OpenParenthesis ∷ mid)
-    × IsSameWord function.now (codes "CountOf") × StartsName name mid (tokens.Mark marks.CloseParenthesis ∷ rest) × SpellsLess count.less_one rest (tokens.Mark marks.Semicolon ∷ after)
+SpellsCount count name before after = (form : NumberForm) × (mid : List Token) × SpellsNumberType (width_of count.size) form before mid × SpellsCountOf name count.less_one mid after
 
 -- `array`, or `wide array`
 abbrev pub StartsArray : List Token → List Token → Type 0

@@ -105,7 +105,7 @@ impl fmt::Display for Expected {
             Expected::KeyNumber => write!(f, "a key with its number is expected, as `key byte = 4;`"),
             Expected::Case => write!(f, "a case is expected"),
             Expected::Last => write!(f, "what goes on to the end is expected only at the end of a type"),
-            Expected::Less => write!(f, "at most 1000 fields and braces are expected"),
+            Expected::Less => write!(f, "at most 300 fields, braces, names or types are expected"),
             Expected::Kind => write!(f, "a type of four characters is expected, as 'STR#'"),
             Expected::Id => write!(f, "an id from -32768 to 32767 is expected"),
             Expected::Type => write!(f, "`type` is expected, or the end"),

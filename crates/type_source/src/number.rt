@@ -262,7 +262,8 @@ fn push_names<'s, 'a>(
     let Some(more) = after_mark(Mark::Comma, after) else {
         return Ok(after);
     };
-    push_names(width, most, next, names, more)
+    let rest = push_names(width, most, next, names, more)?;
+    Ok(rest)
 }
 
 /// The number field whose type was read: what it always is, or names, or neither, and a semicolon.

@@ -2,7 +2,7 @@
 
 ghost use Rattle.std.specs.Prelude.{◌≡◌, codes, IfOk, IfSome};
 ghost use Rattle.res_types.specs.Texts.{width_of};
-ghost use Rattle.type_source.specs.Spelling.{AreIntegers, Braced, Cases, IsKeyField, Keyed, One, Row, Spells, SpellsCount, SpellsFields, SpellsIntegers, SpellsLess, SpellsMark, SpellsNumberType, SpellsPiece, StartsAny, StartsArray, StartsNamed, StartsWord, bits_of_field};
+ghost use Rattle.type_source.specs.Spelling.{AreIntegers, Braced, Cases, IsKeyField, Keyed, One, Row, Spells, SpellsCount, SpellsCountOf, SpellsFields, SpellsIntegers, SpellsLess, SpellsMark, SpellsNumberType, SpellsPiece, StartsAny, StartsArray, StartsCountOf, StartsNamed, StartsWord, bits_of_field};
 
 use crate::fault::{Expected, ReadError, refused};
 use crate::number::{number_field, number_rest, number_type};
@@ -48,6 +48,39 @@ fn less_at<'s, 'a>(tokens: &'s [Token<'a>]) -> Result<(bool, &'s [Token<'a>]), R
     }
 }
 
+/// The tokens after `= $$CountOf (`, if they begin with `=` and a function. No other function is read.
+fn after_count_of<'s, 'a>(tokens: &'s [Token<'a>]) -> Result<Option<&'s [Token<'a>]>, ReadError>
+    ensures { IfOk result (λ found. IfSome found (λ rest. StartsCountOf tokens.now rest.now)) }
+{
+    let Some(mid) = after_mark(Mark::Equals, tokens) else {
+        return Ok(None);
+    };
+    let Some((Token::Function(function), inner)) = mid.split_first() else {
+        return Ok(None);
+    };
+    if !function.eq_ignore_ascii_case(b"CountOf") {
+        return Err(refused(mid, Expected::CountOf));
+    }
+    let rest = mark_at(Mark::OpenParenthesis, inner)?;
+    Ok(Some(rest))
+}
+
+/// The array that is counted, and whether it's one less, if tokens begin with `=` and a function.
+fn count_of<'s, 'a>(
+    tokens: &'s [Token<'a>],
+) -> Result<Option<(&'a [u8], bool, &'s [Token<'a>])>, ReadError>
+    ensures { IfOk result (λ found. IfSome found (λ x. SpellsCountOf x.0.now x.1 tokens.now x.2.now)) }
+{
+    let Some(mid) = after_count_of(tokens)? else {
+        return Ok(None);
+    };
+    let (name, rest) = name_at(mid)?;
+    let rest = mark_at(Mark::CloseParenthesis, rest)?;
+    let (less_one, rest) = less_at(rest)?;
+    let rest = mark_at(Mark::Semicolon, rest)?;
+    Ok(Some((name, less_one, rest)))
+}
+
 /// A number that counts the elements of an array, and the array's name, if the tokens after the number's type say so.
 fn count_at<'s, 'a>(
     width: u8,
@@ -58,24 +91,13 @@ fn count_at<'s, 'a>(
     requires { SpellsNumberType width form tokens.now start.now }
     ensures { IfOk result (λ found. IfSome found (λ x. SpellsCount x.0 x.1.now tokens.now x.2.now)) }
 {
-    let Some(mid) = after_mark(Mark::Equals, start) else {
+    let Some((name, less_one, rest)) = count_of(start)? else {
         return Ok(None);
     };
-    let Some((Token::Function(function), inner)) = mid.split_first() else {
-        return Ok(None);
-    };
-    if !function.eq_ignore_ascii_case(b"CountOf") {
-        return Err(refused(mid, Expected::CountOf));
+    match size_of(width) {
+        Some(size) => Ok(Some((Count { size, less_one }, name, rest))),
+        None => Err(refused(tokens, Expected::CountSize)),
     }
-    let Some(size) = size_of(width) else {
-        return Err(refused(tokens, Expected::CountSize));
-    };
-    let inner = mark_at(Mark::OpenParenthesis, inner)?;
-    let (name, rest) = name_at(inner)?;
-    let rest = mark_at(Mark::CloseParenthesis, rest)?;
-    let (less_one, rest) = less_at(rest)?;
-    let rest = mark_at(Mark::Semicolon, rest)?;
-    Ok(Some((Count { size, less_one }, name, rest)))
 }
 
 /// The tokens after `array`, or `wide array`, if they begin with it.

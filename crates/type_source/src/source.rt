@@ -59,7 +59,8 @@ fn left_of(lefts: &[usize], tokens: usize) -> usize {
 
 /// The types that a text declares, in the order of the text.
 ///
-/// A text has at most 1 MiB, and a type at most 1,000 fields and braces in one another and one after the other. What
+/// A text has at most 1 MiB, and at most 300 fields and braces are in one another and one
+/// after the other, as names and types are one after the other. What
 /// isn't read yet is refused by name: functions other than `$$CountOf`, labels, texts that are always the same,
 /// backslashes in quotes, and what the preprocessor reads. It's proved that a text declares the types that are returned.
 /// That an error has the first place from which on the text declares none, is tested.

@@ -209,7 +209,8 @@ fn push_types<'s, 'a>(
     let most = deeper(most, tokens)?;
     let (declared, rest) = type_at(alloc, tokens)?;
     types.push(declared)?;
-    push_types(alloc, most, types, rest)
+    push_types(alloc, most, types, rest)?;
+    Ok(())
 }
 
 /// All types of a text's tokens.

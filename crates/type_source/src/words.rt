@@ -8,7 +8,7 @@ use crate::fault::{Expected, ReadError, refused};
 use crate::token::{Mark, Token};
 
 /// How many fields and braces may be in one another and one after the other, and how many names and types.
-pub(crate) const MOST_PARTS: u32 = 1000;
+pub(crate) const MOST_PARTS: u32 = 300;
 
 /// One less of so many parts, if there is one.
 pub(crate) fn deeper(depth: u32, tokens: &[Token]) -> Result<u32, ReadError>
