@@ -164,13 +164,13 @@ fn token_at(text: &[u8]) -> Result<(Token<'_>, &[u8]), ReadError>
 
 /// The tokens of a text, and where each begins: how many bytes are left there.
 #[derive(Drop)]
-pub(crate) struct Lexed<'a> {
+pub struct Lexed<'a> {
     pub tokens: Vec<Token<'a>>,
     pub lefts: Vec<usize>,
 }
 
 /// All tokens of a text.
-pub(crate) fn tokens_of(alloc: Global, text: &[u8]) -> Result<Lexed<'_>, ReadError>
+pub fn tokens_of(alloc: Global, text: &[u8]) -> Result<Lexed<'_>, ReadError>
     ensures tokens { IfOk result (λ all. IsText all.tokens.items text.now) }
     ensures lefts { IfOk result (λ all. length all.lefts.items ≡ length all.tokens.items) }
 {

@@ -5,7 +5,7 @@ ghost use Rattle.type_source.specs.Tokens.{byte_of};
 
 /// A mark of one byte.
 #[derive(Clone, Copy, Debug, PartialEq, Eq)]
-pub(crate) enum Mark {
+pub enum Mark {
     OpenBrace,
     CloseBrace,
     OpenBracket,
@@ -62,7 +62,7 @@ impl Mark {
 
 /// A part of a text, between blanks and comments.
 #[derive(Clone, Copy)]
-pub(crate) enum Token<'a> {
+pub enum Token<'a> {
     /// A word of the language, or a name.
     Word(&'a [u8]),
     /// A function: the name after `$$`.
