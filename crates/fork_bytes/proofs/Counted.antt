@@ -14,11 +14,7 @@ same kind = (bytes_eq-Decides kind kind).1 refl
 
 -- two kinds that differ do so either way
 differ : (a b : List ℕ) → bytes_eq a b ≡ false → bytes_eq b a ≡ false
-differ a b apart = by_case (bytes_eq b a) refl
-  where
-    by_case : (t : Bool) → bytes_eq b a ≡ t → t ≡ false
-    by_case true is = absurd (not_from_Decides (bytes_eq a b) (bytes_eq-Decides a b) apart (sym ((bytes_eq-Decides b a).0 is)))
-    by_case false is = refl
+differ a b apart = grind (arith, bytes_eq-Decides, not_from_Decides)
 
 -- two counts of one type before others, and their sum
 pub counted_twice : (kind : List ℕ) (m n : ℕ) (types : List TypeCount) → counted_before kind m (counted_before kind n types) ≡ counted_before kind (m + n) types

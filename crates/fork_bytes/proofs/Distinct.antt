@@ -1,5 +1,5 @@
 -- A set that is made of a list has as many elements exactly where none is there twice.
-use Rattle.std.proofs.Common.{◌≡◌, ◌≢◌, ℕ, List, length, true, nat_eq, BTreeSet, AllPairs, ◌↔◌, subst, sym, ◌∙◌}
+use Rattle.std.proofs.Common.{arith, ◌≡◌, ◌≢◌, ℕ, List, length, true, nat_eq, BTreeSet, AllPairs, ◌↔◌, subst, sym, ◌∙◌}
 use Rattle.std.specs.Bool.{Decides}
 use Rattle.std.specs.BTreeSet.{IsFromIterResult, btree_set_len}
 use Rattle.std.specs.Cmp.Lexicographic.{slice_cmp}
@@ -12,10 +12,7 @@ use Rattle.std.proofs.lemmas.Map.Made.{IsDistinct-from_count, distinct_count-fro
 
 -- the order of bytes distinguishes them
 same : (a b : List ℕ) → Decides (eq_by_cmp (slice_cmp nat_cmp) a b) (a ≡ b)
-same a b = (
-  tells_apart exact_bytes a b,
-  λ (is : a ≡ b). (let P : List ℕ → Type 0 = λ x. eq_by_cmp (slice_cmp nat_cmp) a x ≡ true in subst P is ((eq_by_cmp_equiv nat_list_cmp_total).refl a)),
-)
+same a b = grind (arith, eq_by_cmp_equiv, exact_bytes, nat_list_cmp_total, tells_apart)
 
 pub distinct_by_count : (kinds : List (List ℕ)) (set : BTreeSet (List ℕ)) (count : ℕ) → IsFromIterResult (slice_cmp nat_cmp) kinds set → count ≡ btree_set_len set →
     (nat_eq count (length kinds) ≡ true) ↔ AllPairs (λ (a b : List ℕ). a ≢ b) kinds

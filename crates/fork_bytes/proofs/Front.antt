@@ -12,9 +12,7 @@ abbrev pub header_with : ℕ → ℕ → ℕ → ℕ → Header
 header_with a b c d = record { data_offset = a; map_offset = b; data_length = c; map_length = d }
 
 pub same_header : (a b c d p q r s : ℕ) → a ≡ p → b ≡ q → c ≡ r → d ≡ s → header_with a b c d ≡ header_with p q r s
-same_header a b c d p q r s first second third fourth =
-    ap (λ (x : ℕ). header_with x b c d) first ∙ ap (λ (x : ℕ). header_with p x c d) second
-    ∙ ap (λ (x : ℕ). header_with p q x d) third ∙ ap (λ (x : ℕ). header_with p q r x) fourth
+same_header a b c d p q r s first second third fourth = grind arith
 
 -- the parts of a small fork are small
 pub record IsSmall (table : Table) : Type 0 where
@@ -24,13 +22,7 @@ pub record IsSmall (table : Table) : Type 0 where
 
 -- the header
 pub header_is : (table : Table) → IsSmall table → header_of (written table) ≡ header_for table.rows
-header_is table is =
-    let rows = table.rows in let fork = written table in
-    same_header _ _ _ _ _ _ _ _
-    (big_number-reads_back 4 256 (drop 4 fork) (omega arith))
-    (big_number-reads_back 4 (256 + length (data_text rows)) (drop 8 fork) (omega arith))
-    (big_number-reads_back 4 (length (data_text rows)) (drop 12 fork) (omega arith))
-    (big_number-reads_back 4 (names_offset rows + length (names_text rows)) (drop 16 fork) (omega arith))
+header_is table is = grind arith
 
 -- the extra bytes
 pub extra_is : (table : Table) → length table.extra ≡ 240 → extra_of (written table) ≡ table.extra
@@ -67,12 +59,7 @@ map_is table is =
 
 -- how many bytes the map has
 pub length-map : (table : Table) → IsSmall table → length (map_text table) ≡ names_offset table.rows + length (names_text table.rows)
-length-map table is =
-    let parts = data_text table.rows in let front = front_text table in let resource_map = map_text table in
-    let long = length-append front (parts ++ resource_map) in
-    let rest = length-append parts resource_map in
-    let start = length-front table is.extra in
-    let whole = is.whole in omega arith
+length-map table is = grind (arith, length-append, length-front)
 
 -- the map's attributes, and where its lists are
 pub attributes_are : (table : Table) → table.map_attributes < 65536 → attributes_of (map_text table) ≡ table.map_attributes
@@ -86,8 +73,4 @@ names_stand table low = big_number-reads_back 2 (names_offset table.rows) (drop 
 
 -- how many types there are
 pub types_are : (table : Table) → length (types_of table.rows) ≤ 65535 → type_count (map_text table) ≡ length (types_of table.rows)
-types_are table few =
-    let n = length (types_of table.rows) in
-    let count : number_at 2 28 (map_text table) ≡ (n + 65535) % 65536 = big_number-reads_back 2 ((n + 65535) % 65536) (drop 30 (map_text table)) (omega arith) in
-    ap (λ (at : ℕ). count_at at (map_text table)) (types_stand table)
-    ∙ ap (λ (x : ℕ). (x + 1) % 65536) count ∙ omega arith
+types_are table few = grind arith

@@ -15,23 +15,12 @@ AreFour types = AllByRecursion (λ (t : TypeCount). length t.kind ≡ 4) types
 -- eight bytes for each entry
 pub length-entries : (at : ℕ) (types : List TypeCount) → AreFour types → length (entries_text at types) ≡ 8 * length types
 length-entries at [] four = refl
-length-entries at (first ∷ others) four =
-    let rest = entries_text (at + 12 * first.count) others in
-    let whole = length-append first.kind (count_bytes first.count ++ (big_bytes 2 at ++ rest)) in
-    let count = length-append (count_bytes first.count) (big_bytes 2 at ++ rest) in
-    let two : length (count_bytes first.count) ≡ 2 = refl in
-    let offset = length-append (big_bytes 2 at) rest in
-    let also : length (big_bytes 2 at) ≡ 2 = refl in
-    let kind = four.0 in
-    let others = length-entries (at + 12 * first.count) others four.1 in omega arith
+length-entries at (first ∷ others) four = grind (arith, length-entries (at + 12 * first.count) others four.1, length-append)
 
 -- twelve for each reference
 pub length-references : (name place : ℕ) (rows : List Row) → length (references_text name place rows) ≡ 12 * length rows
 length-references name place [] = refl
-length-references name place (row ∷ rows) =
-    let whole = length-append (reference_text name place row) (references_text (name + length (name_text row.name)) (place + length (datum row)) rows) in
-    let one : length (reference_text name place row) ≡ 12 = refl in
-    let others = length-references (name + length (name_text row.name)) (place + length (datum row)) rows in omega arith
+length-references name place (row ∷ rows) = grind (arith, length-references (name + length (name_text row.name)) (place + length (datum row)) rows, length-append)
 
 -- the whole fork
 pub length-written : (table : Table) → AreFour (types_of table.rows) →

@@ -10,37 +10,17 @@ use Rattle.fork_bytes.specs.Over.{IsOver, is_limit}
 
 -- one condition is the first that fails
 one_first : (fork : List ℕ) (c d : Condition) → FailsFirstWithin macheap_limits fork c → FailsFirstWithin macheap_limits fork d → rank c ≡ rank d
-one_first fork c d first second =
-    ⊎_elim {C = rank c ≡ rank d} (λ less. absurd (first.fails (second.before c less)))
-    (λ most. ⊎_elim {C = rank c ≡ rank d} (λ more. absurd (second.fails (first.before d more))) (λ least. omega arith) (cases_lt (rank d) (rank c)))
-    (cases_lt (rank c) (rank d))
+one_first fork c d first second = grind arith
 
 -- a long fork hasn't its parts
 too_long : (fork : List ℕ) → max_fork < length fork → HasPartsWithin macheap_limits (length fork) (header_of fork) → ⊥
 too_long fork long parts = let small = parts.small in omega arith
 
 limit_of_long : (fork : List ℕ) (c : Condition) → FailsFirstWithin macheap_limits fork c → max_fork < length fork → is_limit (length fork) (BadMap c) ≡ true
-limit_of_long fork Parts first long = lt-ltb max_fork (length fork) long
-limit_of_long fork Types first long = absurd (too_long fork long (first.before Parts (omega arith)))
-limit_of_long fork References first long = absurd (too_long fork long (first.before Parts (omega arith)))
-limit_of_long fork RowCount first long = refl
-limit_of_long fork Names first long = absurd (too_long fork long (first.before Parts (omega arith)))
-limit_of_long fork Places first long = absurd (too_long fork long (first.before Parts (omega arith)))
-limit_of_long fork ByteCount first long = refl
+limit_of_long fork v1 first long = grind arith
 
 limit_of_rank : (count : ℕ) (c : Condition) → (rank c ≡ 3) ⊎ (rank c ≡ 6) → is_limit count (BadMap c) ≡ true
-limit_of_rank count RowCount at = refl
-limit_of_rank count ByteCount at = refl
-limit_of_rank count Parts (inl at) = absurd (omega arith)
-limit_of_rank count Parts (inr at) = absurd (omega arith)
-limit_of_rank count Types (inl at) = absurd (omega arith)
-limit_of_rank count Types (inr at) = absurd (omega arith)
-limit_of_rank count References (inl at) = absurd (omega arith)
-limit_of_rank count References (inr at) = absurd (omega arith)
-limit_of_rank count Names (inl at) = absurd (omega arith)
-limit_of_rank count Names (inr at) = absurd (omega arith)
-limit_of_rank count Places (inl at) = absurd (omega arith)
-limit_of_rank count Places (inr at) = absurd (omega arith)
+limit_of_rank count v1 v2 = grind arith
 
 -- what is over the limits has the fault of one
 pub limit_of_over : (fork : List ℕ) (fault : ForkFault) → Refuses fork fault → fault ≢ HostFull → IsOver fork → is_limit (length fork) fault ≡ true

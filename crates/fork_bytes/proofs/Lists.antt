@@ -8,9 +8,7 @@ use Rattle.fork_bytes.specs.Reading.{IsTypeList, kinds_of}
 
 -- the places from an index on
 pub places_step : (count i at next distance : ℕ) → i < count → next ≡ at + distance → places (count - i) at distance ≡ at ∷ places (count - (i + 1)) next distance
-places_step count i at next distance within is =
-    let one : count - i ≡ suc (count - (i + 1)) = omega arith in
-    ap (λ (n : ℕ). places n at distance) one ∙ ap (λ (n : ℕ). at ∷ places (count - (i + 1)) n distance) (sym is)
+places_step count i at next distance within is = grind arith
 
 pub places_end : (count i at distance : ℕ) → count ≤ i → places (count - i) at distance ≡ []
 places_end count i at distance past = let none : count - i ≡ 0 = omega arith in ap (λ (n : ℕ). places n at distance) none
@@ -66,9 +64,7 @@ pub reference_end : (kind : List ℕ) (count i start : ℕ) → count ≤ i → 
 reference_end kind count i start past = ap (map (λ (at : ℕ). record { kind = kind; place = at })) (places_end count i start 12 past)
 
 pub reference_start : (kind : List ℕ) (count start : ℕ) → references_at kind (count - 0) (start + 0) ≡ references_at kind count start
-reference_start kind count start =
-    let none : count - 0 ≡ count = omega arith in let here : start + 0 ≡ start = omega arith in
-    ap (λ (n : ℕ). references_at kind n (start + 0)) none ∙ ap (λ (n : ℕ). references_at kind count n) here
+reference_start kind count start = grind arith
 
 -- there are as many as were counted
 pub length-references : (kind : List ℕ) (count start : ℕ) → length (references_at kind count start) ≡ count

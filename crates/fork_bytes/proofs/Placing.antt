@@ -47,9 +47,7 @@ datum_in_fork fork at within = number_in_part 4 (header_of fork).data_length at 
 
 -- the bytes at the place of a row are its datum
 bytes_of_datum : (n d m start : ℕ) (fork : List ℕ) → d + 4 + n ≤ m → bytes_at n (d + 4) (bytes_at m start fork) ≡ bytes_at n (start + d + 4) fork
-bytes_of_datum n d m start fork within =
-    let at : start + (d + 4) ≡ start + d + 4 = omega arith in
-    bytes_in_part n m (d + 4) start fork (omega arith) ∙ ap (λ (k : ℕ). bytes_at n k fork) at
+bytes_of_datum n d m start fork within = grind (arith, bytes_in_part)
 
 with_bytes : (row : MapRow) (a b : List ℕ) → a ≡ b →
     (let made : Row = record { kind = row.kind; id = row.id; name = row.name; attributes = row.attributes; datum = a } in made)
@@ -57,10 +55,7 @@ with_bytes : (row : MapRow) (a b : List ℕ) → a ≡ b →
 with_bytes row a b is = ap (λ (bytes : List ℕ). record { kind = row.kind; id = row.id; name = row.name; attributes = row.attributes; datum = bytes }) is
 
 pub row_is_at : (fork : List ℕ) → HasWholeData fork (header_of fork) → (row : MapRow) → HasDatum (data_of fork) row → row_with (data_of fork) row ≡ row_at fork (placed_row fork row)
-row_is_at fork parts row has =
-    let long = length-data fork parts in
-    let within : row.datum + 4 + datum_length (data_of fork) row.datum ≤ (header_of fork).data_length = omega (arith, has.1, long) in
-    with_bytes row _ _ (bytes_of_datum (datum_length (data_of fork) row.datum) row.datum (header_of fork).data_length (header_of fork).data_offset fork within)
+row_is_at fork parts row has = grind (arith, bytes_of_datum, length-data, with_bytes)
 
 pub rows_are_at : (fork : List ℕ) → HasWholeData fork (header_of fork) → (rows : List MapRow) → HasData (data_of fork) rows →
     map (row_with (data_of fork)) rows ≡ map (row_at fork) (map (placed_row fork) rows)

@@ -59,10 +59,7 @@ plain_map : {X : Type 0} (text : X → List ℕ) (rows : List (Resource X)) → 
 plain_map text rows = let offset = plain_offset text rows in let names = ap (λ (xs : List ℕ). length xs) (plain_names text rows) in omega arith
 
 pub plain_header : {X : Type 0} (text : X → List ℕ) (rows : List (Resource X)) → sized_header (text_length text) rows ≡ header_for (plain_rows text rows)
-plain_header text rows =
-    let parts = plain_data text rows in let size = plain_map text rows in let all = plain_rows text rows in let many = data_size (text_length text) rows in
-    same_header 256 (256 + many) many (map_size rows) 256 (256 + data_size own all) (data_size own all) (map_size all) refl (omega arith) (sym parts) (sym size)
-    ∙ header_is all
+plain_header text rows = grind (arith, header_is, own, plain_data, plain_map, same_header)
 
 fit_plain : {X : Type 0} (limits : Limits) (text : X → List ℕ) (rows : List (Resource X)) → FitSizesWithin limits (text_length text) rows ↔ FitSizesWithin limits own (plain_rows text rows)
 fit_plain limits text rows =

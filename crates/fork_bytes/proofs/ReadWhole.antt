@@ -38,10 +38,8 @@ id_fits n low = search (rules, ints)
 
 -- a name
 name_short : (resource_map : List ℕ) (at : Option ℕ) → AreBytes resource_map → IfSome (name_at resource_map at) (λ name. length name ≤ 255)
-name_short resource_map None low = tt
-name_short resource_map (Some at) low =
-    let size = slice_index resource_map at in
-    let byte = low at in let long = length-take size (drop (at + 1) resource_map) in omega arith
+name_short resource_map None low = grind (arith, length-take)
+name_short resource_map (Some at) low = grind (arith, length-take)
 
 -- the types of entries have four bytes
 four_entered : (resource_map : List ℕ) (count place : ℕ) → place + 8 * count ≤ length resource_map →

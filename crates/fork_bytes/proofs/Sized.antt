@@ -25,9 +25,7 @@ data_is [] = refl
 data_is (row ∷ rows) = let others = data_is rows in let whole = length-data row rows in omega arith
 
 pub header_is : (rows : List Row) → sized_header own rows ≡ header_for rows
-header_is rows =
-    let parts = data_is rows in
-    same_header 256 (256 + data_size own rows) (data_size own rows) (map_size rows) 256 (256 + length (data_text rows)) (length (data_text rows)) (map_size rows) refl (omega arith) parts refl
+header_is rows = grind (arith, data_is, same_header)
 
 -- each place is small where the data from the first one on are
 pub few_places : (at : ℕ) (rows : List Row) → at + length (data_text rows) ≤ 16777216 → PlacesFit length at rows

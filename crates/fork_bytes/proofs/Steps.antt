@@ -23,10 +23,7 @@ length-big_bytes = length-bytes_high_first
 
 -- the data of a row and those after it
 pub length-data : (row : Row) (rows : List Row) → length (data_text (row ∷ rows)) ≡ 4 + length row.datum + length (data_text rows)
-length-data row rows =
-    let whole = length-append (datum row) (data_text rows) in
-    let one = length-append (big_bytes 4 (length row.datum)) row.datum in
-    let four = length-big_bytes 4 (length row.datum) in omega arith
+length-data row rows = grind (arith, length-append, length-big_bytes)
 
 -- the same at a place among rows
 pub data_step : (rows : List Row) (i : ℕ) (row : Row) → i < length rows → row ≡ get_or rows i row →
