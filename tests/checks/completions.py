@@ -25,7 +25,7 @@ INSTALLED = [
 # an unfinished line, and what completes its last word in a folder with the files `a file` and `b`, and the folder `c dir`
 LINES = [
     (["resfork", "sh"], ["show"]), (["resfork", "con"], ["convert"]), (["resfork", "convert", "--to", ""], KINDS), (["resfork", "convert", "--to", "mac"], ["macbinary"]),
-    (["resfork", "show", "b", "--as", ""], ["text", "hex", "png"]), (["resfork", "ls", ""], ["a file", "b", "c dir"]), (["resfork", "ls", "b", "a"], ["a file"]),
+    (["resfork", "show", "b", "--as", ""], ["text", "hex", "png", "wav"]), (["resfork", "ls", ""], ["a file", "b", "c dir"]), (["resfork", "ls", "b", "a"], ["a file"]),
     (["resfork", "ls", "-t", ""], []), (["resfork", "get", "b", ""], []), (["resfork", "get", "b", "TEXT", "128", "-o", "a"], ["a file"]), (["resfork", "unpack", "b", ""], ["c dir"]),
     (["resfork", "put", "-q", "-i", "b", ""], ["a file", "b", "c dir"]), (["resfork", "diff", "b", "a"], ["a file"]), (["resfork", "diff", "b", "a", ""], []),
     (["resfork", "cp", "b", "TEXT", "a"], ["a file"]), (["macheap", "--fork", "a"], ["a file"]), (["macheap", "--mode", ""], ["24", "32"]), (["macheap", "--look", "a"], ["a file"]), (["macheap", "--look", "b", "--j"], ["--json"]),
