@@ -29,7 +29,7 @@ LINES = {
     "docs/FILES.md": 149,
     "docs/FORMAT.md": 78,
     "docs/SCRIPT.md": 266,
-    "docs/THEOREM.md": 195,
+    "docs/THEOREM.md": 196,
 }
 WIDTH = 100
 # the most words of all pages, code blocks aside
