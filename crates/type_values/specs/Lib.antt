@@ -2,3 +2,4 @@ pub mod Text
 pub mod Words
 pub mod Layout
 pub mod Statement
+pub mod Laws

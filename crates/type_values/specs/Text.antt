@@ -9,7 +9,7 @@ use Rattle.res_types.specs.declared.field.NumberForm.{NumberForm}
 use Rattle.res_types.specs.declared.field.NumberForm.TheVariants.{Boolean, Character, Binary, Octal, Signed, Unsigned, Hexadecimal, Literal}
 use Rattle.res_types.specs.declared.field.TextStyle.{TextStyle}
 use Rattle.res_types.specs.declared.field.TextStyle.TheVariants as styles
-use Rattle.fork_rez.specs.Text.{written, hexadecimal}
+use Rattle.fork_rez.specs.Text.{written, digits_text}
 use Rattle.type_source.specs.declared.run.Run.TheVariants.{Quoted}
 use Rattle.type_source.specs.Tokens.{goes_on}
 
@@ -24,7 +24,7 @@ quoted bytes = 34 ∷ (flat_map (written 34) bytes ++ 34 ∷ [])
 
 -- bytes in hexadecimal digits between double quotes, after `$`
 abbrev pub in_digits : List ℕ → List ℕ
-in_digits bytes = 36 ∷ 34 ∷ (flat_map hexadecimal bytes ++ 34 ∷ [])
+in_digits bytes = 36 ∷ 34 ∷ (digits_text 0 bytes ++ 34 ∷ [])
 
 -- a text, as its type shows it
 abbrev pub styled : TextStyle → List ℕ → List ℕ

@@ -55,18 +55,22 @@ show_text style (parts.Number n ∷ rest) = Err (length rest + 1)
 show_text style (parts.Elements n ∷ rest) = Err (length rest + 1)
 show_text style (parts.Case chosen ∷ rest) = Err (length rest + 1)
 
--- so many elements, each after these words
-unfoldable pub show_elements : (List Part → Shown) → List Word → ℕ → List Part → Shown
-show_elements show before zero ps = Ok ([], ps)
-show_elements show before (suc n) ps = show ps >>= λ x. with_words (before ++ x.0) (show_elements show before n x.1)
+-- so many elements
+unfoldable pub show_elements : (List Part → Shown) → ℕ → List Part → Shown
+show_elements show zero ps = Ok ([], ps)
+show_elements show (suc n) ps = show ps >>= λ x. with_words x.0 (show_elements show n x.1)
 
 -- an array of so many elements, in one line
 unfoldable pub show_row : (List Part → Shown) → ℕ → List Part → Shown
-show_row show n ps = between words.Open words.Close (show_elements show [] n ps)
+show_row show n ps = between words.Open words.Close (show_elements show n ps)
+
+-- an element on a line
+abbrev pub show_line : (List Part → Shown) → List Part → Shown
+show_line show ps = with_words (words.Line ∷ []) (show ps)
 
 -- an array, each element of which is on a line
 unfoldable pub show_list : (List Part → Shown) → ℕ → List Part → Shown
-show_list show n ps = between words.Open words.End (show_elements show (words.Line ∷ []) n ps)
+show_list show n ps = between words.Open words.End (show_elements (show_line show) n ps)
 
 -- the words of the first parts as these fields
 abbrev pub show : Field → List Part → Shown

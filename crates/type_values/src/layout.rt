@@ -30,12 +30,7 @@ fn comma(rest: &[Word]) -> &'static [u8]
 }
 
 /// Adds a word in so many braces, and what is between it and the words after it.
-fn push_word(
-    out: &mut Vec<u8>,
-    depth: usize,
-    word: &Word,
-    rest: &[Word],
-) -> Result<(), AllocError>
+fn push_word(out: &mut Vec<u8>, depth: usize, word: &Word, rest: &[Word]) -> Result<(), AllocError>
     ensures { OnOk result (out.new.items ≡ out.old.items ++ word_text depth word.now rest.now) }
 {
     match word {

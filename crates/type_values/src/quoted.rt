@@ -2,7 +2,7 @@
 
 ghost use Rattle.std.specs.Prelude.{◌≡◌, ◌++◌, OnOk};
 ghost use Rattle.std.specs.List.{flat_map};
-ghost use Rattle.fork_rez.specs.Text.{hexadecimal, is_printable, written};
+ghost use Rattle.fork_rez.specs.Text.{digits_text, hexadecimal, is_printable, written};
 ghost use Rattle.type_values.specs.Text.{in_digits, quoted, styled};
 
 use fork_list::hexadecimal_digit;
@@ -43,11 +43,7 @@ fn push_written(out: &mut Vec<u8>, quote: u8, byte: u8) -> Result<(), AllocError
 }
 
 /// Adds bytes between these quotes.
-pub(crate) fn push_all_written(
-    out: &mut Vec<u8>,
-    quote: u8,
-    bytes: &[u8],
-) -> Result<(), AllocError>
+pub(crate) fn push_all_written(out: &mut Vec<u8>, quote: u8, bytes: &[u8]) -> Result<(), AllocError>
     ensures { OnOk result (out.new.items ≡ out.old.items ++ flat_map (written quote) bytes.now) }
 {
     for byte in bytes {
@@ -56,12 +52,15 @@ pub(crate) fn push_all_written(
     Ok(())
 }
 
-/// Adds bytes in hexadecimal digits.
-fn push_all_digits(out: &mut Vec<u8>, bytes: &[u8]) -> Result<(), AllocError>
-    ensures { OnOk result (out.new.items ≡ out.old.items ++ flat_map hexadecimal bytes.now) }
+/// Adds bytes in hexadecimal digits, a blank before each second one but the first.
+fn push_digits(out: &mut Vec<u8>, bytes: &[u8]) -> Result<(), AllocError>
+    ensures { OnOk result (out.new.items ≡ out.old.items ++ digits_text 0 bytes.now) }
 {
-    for byte in bytes {
-        push_byte(out, *byte)?;
+    for i in 0..bytes.len() {
+        if 0 < i && i % 2 == 0 {
+            out.push(b' ')?;
+        }
+        push_byte(out, bytes[i])?;
     }
     Ok(())
 }
@@ -81,7 +80,7 @@ fn push_in_digits(out: &mut Vec<u8>, bytes: &[u8]) -> Result<(), AllocError>
     ensures { OnOk result (out.new.items ≡ out.old.items ++ in_digits bytes.now) }
 {
     out.extend_from_slice(b"$\"")?;
-    push_all_digits(out, bytes)?;
+    push_digits(out, bytes)?;
     out.push(b'"')?;
     Ok(())
 }

@@ -15,12 +15,7 @@ use std::alloc::{AllocError, Global};
 use type_source::types::Kind;
 
 /// The statement of a resource with these words.
-fn statement_text(
-    alloc: Global,
-    kind: Kind,
-    id: i16,
-    words: &[Word],
-) -> Result<Vec<u8>, AllocError>
+fn statement_text(alloc: Global, kind: Kind, id: i16, words: &[Word]) -> Result<Vec<u8>, AllocError>
     ensures { IfOk result (λ text. text.items ≡ statement_text kind id words.now) }
 {
     let mut text = Vec::from_slice(alloc, b"resource '")?;

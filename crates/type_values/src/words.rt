@@ -1,11 +1,11 @@
 //! The words of a value.
 
-ghost use Rattle.std.specs.Prelude.{◌≡◌, [], ◌∷◌, ◌++◌, IfOk, OnOk};
+ghost use Rattle.std.specs.Prelude.{◌≡◌, ◌++◌, IfOk, OnOk};
 ghost use Rattle.res_types.specs.Reading.{Gives};
 ghost use Rattle.res_types.specs.Writing.{case_in, elements_in};
 ghost use Rattle.type_values.specs.declared.word.Word.TheVariants as kinds;
 ghost use Rattle.type_values.specs.Text.{number_text, styled};
-ghost use Rattle.type_values.specs.Words.{between, lined, on_line, show, show_elements, show_fields, show_list, show_number, show_row, show_tail, show_text, show_value, with_words};
+ghost use Rattle.type_values.specs.Words.{between, lined, on_line, show, show_elements, show_fields, show_line, show_list, show_number, show_row, show_tail, show_text, show_value, with_words};
 
 use crate::number::push_number;
 use crate::quoted::push_styled;
@@ -109,13 +109,23 @@ fn show_elements<'a>(
     words: &mut Vec<Word>,
     parts: &'a [Part],
 ) -> Result<&'a [Part], Stop>
-    ensures { Gives (λ rest. (words.new.items, rest.now)) result (with_words words.old.items (show_elements (show body.now) [] count parts.now)) }
+    ensures { Gives (λ rest. (words.new.items, rest.now)) result (with_words words.old.items (show_elements (show body.now) count parts.now)) }
 {
     let mut rest = parts;
     for _turn in 0..count {
         rest = show(body, words, rest)?;
     }
     Ok(rest)
+}
+
+/// Adds the words of an element on a line. The parts after it.
+#[cycle(words)]
+#[tactic(auto, using(crate::proofs::Steps::words_twice))]
+fn show_line<'a>(body: &Field, words: &mut Vec<Word>, parts: &'a [Part]) -> Result<&'a [Part], Stop>
+    ensures { Gives (λ rest. (words.new.items, rest.now)) result (with_words words.old.items (show_line (show body.now) parts.now)) }
+{
+    words.push(Word::Line)?;
+    show(body, words, parts)
 }
 
 /// Adds the words of so many elements, each on a line. The parts after them.
@@ -126,19 +136,18 @@ fn show_lines<'a>(
     words: &mut Vec<Word>,
     parts: &'a [Part],
 ) -> Result<&'a [Part], Stop>
-    ensures { Gives (λ rest. (words.new.items, rest.now)) result (with_words words.old.items (show_elements (show body.now) (kinds.Line ∷ []) count parts.now)) }
+    ensures { Gives (λ rest. (words.new.items, rest.now)) result (with_words words.old.items (show_elements (show_line (show body.now)) count parts.now)) }
 {
     let mut rest = parts;
     for _turn in 0..count {
-        words.push(Word::Line)?;
-        rest = show(body, words, rest)?;
+        rest = show_line(body, words, rest)?;
     }
     Ok(rest)
 }
 
 /// Adds the words of an array, in one line. The parts after it.
 #[cycle(words)]
-#[tactic(auto, unfolding(crate::specs::Words::show_row), using(crate::proofs::Steps::braced))]
+#[tactic(auto, unfolding(crate::specs::Words::show_row), using(crate::proofs::Steps::braced, crate::proofs::Steps::unbraced))]
 fn show_row<'a>(
     body: &Field,
     count: usize,
@@ -155,7 +164,7 @@ fn show_row<'a>(
 
 /// Adds the words of an array, each element on a line. The parts after it.
 #[cycle(words)]
-#[tactic(auto, unfolding(crate::specs::Words::show_list), using(crate::proofs::Steps::braced))]
+#[tactic(auto, unfolding(crate::specs::Words::show_list), using(crate::proofs::Steps::braced, crate::proofs::Steps::unbraced))]
 fn show_list<'a>(
     body: &Field,
     count: usize,
@@ -172,7 +181,7 @@ fn show_list<'a>(
 
 /// Adds the words of the fields of a case of this name. The parts after it.
 #[cycle(words)]
-#[tactic(auto, using(crate::proofs::Steps::braced))]
+#[tactic(auto, using(crate::proofs::Steps::braced, crate::proofs::Steps::unbraced))]
 fn show_case<'a>(
     name: &[u8],
     chosen: &Field,
@@ -191,11 +200,7 @@ fn show_case<'a>(
 /// Adds the words of the first parts as these fields. The parts after them.
 #[cycle(words)]
 #[tactic(auto, using(crate::proofs::Steps::shows_on))]
-fn show<'a>(
-    field: &Field,
-    words: &mut Vec<Word>,
-    parts: &'a [Part],
-) -> Result<&'a [Part], Stop>
+fn show<'a>(field: &Field, words: &mut Vec<Word>, parts: &'a [Part]) -> Result<&'a [Part], Stop>
     ensures { Gives (λ rest. (words.new.items, rest.now)) result (with_words words.old.items (show field.now parts.now)) }
 {
     match field {
@@ -270,11 +275,7 @@ fn show_fields<'a>(
 }
 
 /// Adds the words of what goes on to the last bit. The parts after them.
-fn show_tail<'a>(
-    tail: &Tail,
-    words: &mut Vec<Word>,
-    parts: &'a [Part],
-) -> Result<&'a [Part], Stop>
+fn show_tail<'a>(tail: &Tail, words: &mut Vec<Word>, parts: &'a [Part]) -> Result<&'a [Part], Stop>
     ensures { Gives (λ rest. (words.new.items, rest.now)) result (with_words words.old.items (show_tail tail.now parts.now)) }
 {
     match tail {
