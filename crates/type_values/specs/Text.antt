@@ -47,9 +47,13 @@ hexadecimal_text number = 36 ∷ digits 16 true number
 abbrev pub literal_text : ℕ → List ℕ
 literal_text number = if list_all (goes_on (Quoted 39)) (big_bytes 4 number) then 39 ∷ (big_bytes 4 number ++ 39 ∷ []) else hexadecimal_text number
 
+-- a boolean as a word
+abbrev pub truth_text : ℕ → List ℕ
+truth_text number = if number == 0 then codes "false" else codes "true"
+
 -- a number in this form, in so many bits
 abbrev pub form_text : NumberForm → ℕ → ℕ → List ℕ
-form_text Boolean width number = if number == 0 then codes "false" else codes "true"
+form_text Boolean width number = truth_text number
 form_text Character width number = quoted (number % 256 ∷ [])
 form_text Binary width number = 48 ∷ 98 ∷ digits 2 true number
 form_text Octal width number = 48 ∷ digits 8 true number

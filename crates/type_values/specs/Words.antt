@@ -27,14 +27,6 @@ with_words front shown = shown >>= λ x. Ok (front ++ x.0, x.1)
 abbrev pub between : Word → Word → Shown → Shown
 between first last shown = shown >>= λ x. Ok (first ∷ (x.0 ++ last ∷ []), x.1)
 
--- words on a line of their own, if there are any
-abbrev pub on_line : List Word → List Word
-on_line [] = []
-on_line (first ∷ others) = words.Line ∷ first ∷ others
-
-abbrev pub lined : Shown → Shown
-lined shown = shown >>= λ x. Ok (on_line x.0, x.1)
-
 -- a number that begins the parts
 abbrev pub show_part : NumberField → List Part → Shown
 show_part field [] = Err 0
@@ -85,12 +77,6 @@ show (Marked' mark p body) ps = elements_in ps >>= λ n. show_list (show body) n
 show (Case' key p chosen q other) ps = case_in ps >>= λ x. if x.0 then between (words.Case key.name.items) words.Close (show chosen x.1) else show other x.1
 show NoCase ps = Err (length ps)
 
--- the same, each field on a line
-abbrev pub show_fields : Field → List Part → Shown
-show_fields Nothing ps = Ok ([], ps)
-show_fields (Then' p first q second) ps = lined (show first ps) >>= λ x. with_words x.0 (show_fields second x.1)
-show_fields field ps = show field ps
-
 -- the words of what goes on to the last bit
 abbrev pub show_tail : Tail → List Part → Shown
 show_tail tails.Nothing ps = Ok ([], ps)
@@ -100,6 +86,6 @@ show_tail (tails.Elements body) ps = elements_in ps >>= λ n. show_list (show bo
 -- the words of a value
 unfoldable pub show_value : Declaration → List Part → Result (List Word) ℕ
 show_value declaration ps = do
-  fields ← show_fields declaration.fields ps
-  tail ← lined (show_tail declaration.tail fields.1)
+  fields ← show declaration.fields ps
+  tail ← show_tail declaration.tail fields.1
   if length tail.1 == 0 then Ok (fields.0 ++ tail.0) else Err (length tail.1)

@@ -1,7 +1,7 @@
 //! The text of words.
 
 ghost use Rattle.std.specs.Prelude.{◌≡◌, ◌<◌, ◌^◌, ◌++◌, OnOk, replicate};
-ghost use Rattle.type_values.specs.Layout.{comma, depth_after, line_text, word_text, words_text};
+ghost use Rattle.type_values.specs.Layout.{comma, depth_after, line_text, start, word_text, words_text};
 
 use crate::word::Word;
 use std::alloc::AllocError;
@@ -18,13 +18,25 @@ fn push_line(out: &mut Vec<u8>, depth: usize) -> Result<(), AllocError>
     Ok(())
 }
 
-/// What is between an item and these words.
-fn comma(rest: &[Word]) -> &'static [u8]
-    ensures { result.now ≡ comma rest.now }
+/// Adds what is before an item in so many braces.
+fn push_start(out: &mut Vec<u8>, depth: usize) -> Result<(), AllocError>
+    ensures { OnOk result (out.new.items ≡ out.old.items ++ start depth) }
+{
+    if depth == 1 {
+        push_line(out, 1)
+    } else {
+        Ok(())
+    }
+}
+
+/// What is after an item in so many braces, before these words.
+fn comma(depth: usize, rest: &[Word]) -> &'static [u8]
+    ensures { result.now ≡ comma depth rest.now }
 {
     match rest {
         [] | [Word::Close | Word::End, ..] => b"",
         [Word::Line, ..] => b",",
+        [Word::Open | Word::Case(_) | Word::Item(_), ..] if depth == 1 => b",",
         [Word::Open | Word::Case(_) | Word::Item(_), ..] => b", ",
     }
 }
@@ -33,28 +45,38 @@ fn comma(rest: &[Word]) -> &'static [u8]
 fn push_word(out: &mut Vec<u8>, depth: usize, word: &Word, rest: &[Word]) -> Result<(), AllocError>
     ensures { OnOk result (out.new.items ≡ out.old.items ++ word_text depth word.now rest.now) }
 {
+    let outer = depth.saturating_sub(1);
     match word {
-        Word::Open => out.push(b'{')?,
+        Word::Open => {
+            push_start(out, depth)?;
+            out.push(b'{')?;
+            Ok(())
+        }
         Word::Close => {
             out.push(b'}')?;
-            out.extend_from_slice(comma(rest))?;
+            out.extend_from_slice(comma(outer, rest))?;
+            Ok(())
         }
         Word::End => {
-            push_line(out, depth.saturating_sub(1))?;
+            push_line(out, outer)?;
             out.push(b'}')?;
-            out.extend_from_slice(comma(rest))?;
+            out.extend_from_slice(comma(outer, rest))?;
+            Ok(())
         }
-        Word::Line => push_line(out, depth)?,
+        Word::Line => push_line(out, depth),
         Word::Case(name) => {
+            push_start(out, depth)?;
             out.extend_from_slice(name.as_slice())?;
             out.extend_from_slice(b" {")?;
+            Ok(())
         }
         Word::Item(text) => {
+            push_start(out, depth)?;
             out.extend_from_slice(text.as_slice())?;
-            out.extend_from_slice(comma(rest))?;
+            out.extend_from_slice(comma(depth, rest))?;
+            Ok(())
         }
     }
-    Ok(())
 }
 
 /// In how many braces the words after a word are.

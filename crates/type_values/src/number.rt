@@ -6,7 +6,7 @@ ghost use Rattle.std.specs.List.{list_all};
 ghost use Rattle.byteorder.specs.Endian.{big_bytes};
 ghost use Rattle.type_source.specs.declared.run.Run.TheVariants.{Quoted};
 ghost use Rattle.type_source.specs.Tokens.{goes_on};
-ghost use Rattle.type_values.specs.Text.{form_text, hexadecimal_text, literal_text, name_of, number_text, numbers_of, signed_text};
+ghost use Rattle.type_values.specs.Text.{form_text, hexadecimal_text, literal_text, name_of, number_text, numbers_of, signed_text, truth_text};
 
 use crate::quoted::push_quoted;
 use byteorder::{BE, ByteOrder};
@@ -110,6 +110,15 @@ fn push_literal(alloc: Global, out: &mut Vec<u8>, number: u32) -> Result<(), All
     Ok(())
 }
 
+/// Adds `false` for 0, and else `true`.
+fn push_truth(out: &mut Vec<u8>, number: u32) -> Result<(), AllocError>
+    ensures { OnOk result (out.new.items ≡ out.old.items ++ truth_text number) }
+{
+    let word: &[u8] = if number == 0 { b"false" } else { b"true" };
+    out.extend_from_slice(word)?;
+    Ok(())
+}
+
 /// Adds a number in its form.
 fn push_form(
     alloc: Global,
@@ -121,17 +130,15 @@ fn push_form(
     ensures { OnOk result (out.new.items ≡ out.old.items ++ form_text form width number) }
 {
     match form {
-        NumberForm::Boolean if number == 0 => out.extend_from_slice(b"false")?,
-        NumberForm::Boolean => out.extend_from_slice(b"true")?,
-        NumberForm::Character => push_quoted(out, &[(number % 256) as u8])?,
-        NumberForm::Binary => push_binary(alloc, out, number)?,
-        NumberForm::Octal => push_octal(alloc, out, number)?,
-        NumberForm::Signed => push_signed(alloc, out, width, number)?,
-        NumberForm::Unsigned => push_decimal(alloc, out, u64::from(number))?,
-        NumberForm::Hexadecimal => push_hexadecimal(alloc, out, number)?,
-        NumberForm::Literal => push_literal(alloc, out, number)?,
+        NumberForm::Boolean => push_truth(out, number),
+        NumberForm::Character => push_quoted(out, &[(number % 256) as u8]),
+        NumberForm::Binary => push_binary(alloc, out, number),
+        NumberForm::Octal => push_octal(alloc, out, number),
+        NumberForm::Signed => push_signed(alloc, out, width, number),
+        NumberForm::Unsigned => push_decimal(alloc, out, u64::from(number)),
+        NumberForm::Hexadecimal => push_hexadecimal(alloc, out, number),
+        NumberForm::Literal => push_literal(alloc, out, number),
     }
-    Ok(())
 }
 
 /// Adds a number by its name, if it has one, and else in its form.

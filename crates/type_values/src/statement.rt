@@ -1,9 +1,9 @@
 //! A resource as a statement of Rez.
 
-ghost use Rattle.std.specs.Prelude.{◌≡◌, IfOk};
+ghost use Rattle.std.specs.Prelude.{◌≡◌, ◌++◌, IfOk, OnOk};
 ghost use Rattle.res_types.specs.Bits.{byte_bits};
 ghost use Rattle.res_types.specs.Reading.{Gives};
-ghost use Rattle.type_values.specs.Statement.{resource_text, statement_text};
+ghost use Rattle.type_values.specs.Statement.{id_text, kind_text, resource_text, statement_text};
 
 use crate::layout::push_words;
 use crate::quoted::push_all_written;
@@ -14,16 +14,33 @@ use res_types::stop::Stop;
 use std::alloc::{AllocError, Global};
 use type_source::types::Kind;
 
+/// Adds a type in quotes, after `resource`.
+fn push_kind(out: &mut Vec<u8>, kind: Kind) -> Result<(), AllocError>
+    ensures { OnOk result (out.new.items ≡ out.old.items ++ kind_text kind) }
+{
+    out.extend_from_slice(b"resource '")?;
+    push_all_written(out, b'\'', &kind.0)?;
+    out.extend_from_slice(b"' (")?;
+    Ok(())
+}
+
+/// Adds an id.
+fn push_id(alloc: Global, out: &mut Vec<u8>, id: i16) -> Result<(), AllocError>
+    ensures { OnOk result (out.new.items ≡ out.old.items ++ id_text id) }
+{
+    let digits = id.to_string(alloc)?;
+    out.extend_from_slice(digits.as_bytes())?;
+    out.extend_from_slice(b") {")?;
+    Ok(())
+}
+
 /// The statement of a resource with these words.
 fn statement_text(alloc: Global, kind: Kind, id: i16, words: &[Word]) -> Result<Vec<u8>, AllocError>
     ensures { IfOk result (λ text. text.items ≡ statement_text kind id words.now) }
 {
-    let mut text = Vec::from_slice(alloc, b"resource '")?;
-    push_all_written(&mut text, b'\'', &kind.0)?;
-    text.extend_from_slice(b"' (")?;
-    let digits = id.to_string(alloc)?;
-    text.extend_from_slice(digits.as_bytes())?;
-    text.extend_from_slice(b") {")?;
+    let mut text = Vec::new(alloc);
+    push_kind(&mut text, kind)?;
+    push_id(alloc, &mut text, id)?;
     push_words(&mut text, words)?;
     text.extend_from_slice(b"\n};\n")?;
     Ok(text)

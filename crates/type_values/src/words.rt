@@ -1,11 +1,11 @@
 //! The words of a value.
 
-ghost use Rattle.std.specs.Prelude.{◌≡◌, ◌++◌, IfOk, OnOk};
+ghost use Rattle.std.specs.Prelude.{◌≡◌, IfOk};
 ghost use Rattle.res_types.specs.Reading.{Gives};
 ghost use Rattle.res_types.specs.Writing.{case_in, elements_in};
 ghost use Rattle.type_values.specs.declared.word.Word.TheVariants as kinds;
 ghost use Rattle.type_values.specs.Text.{number_text, styled};
-ghost use Rattle.type_values.specs.Words.{between, lined, on_line, show, show_elements, show_fields, show_line, show_list, show_number, show_row, show_tail, show_text, show_value, with_words};
+ghost use Rattle.type_values.specs.Words.{between, show, show_elements, show_line, show_list, show_number, show_row, show_tail, show_text, show_value, with_words};
 
 use crate::number::push_number;
 use crate::quoted::push_styled;
@@ -230,50 +230,6 @@ fn show<'a>(field: &Field, words: &mut Vec<Word>, parts: &'a [Part]) -> Result<&
     }
 }
 
-/// Adds the words of the first parts as these fields, on a line if there are any. The parts after them.
-fn show_on_line<'a>(
-    field: &Field,
-    words: &mut Vec<Word>,
-    parts: &'a [Part],
-) -> Result<&'a [Part], Stop>
-    ensures { Gives (λ rest. (words.new.items, rest.now)) result (with_words words.old.items (lined (show field.now parts.now))) }
-{
-    let mut line = Vec::new(*words.allocator());
-    let rest = show(field, &mut line, parts)?;
-    push_line(words, line)?;
-    Ok(rest)
-}
-
-/// Adds words on a line, if there are any.
-fn push_line(words: &mut Vec<Word>, mut line: Vec<Word>) -> Result<(), AllocError>
-    ensures { OnOk result (words.new.items ≡ words.old.items ++ on_line line.items) }
-{
-    if line.is_empty() {
-        return Ok(());
-    }
-    words.push(Word::Line)?;
-    words.append(&mut line)?;
-    Ok(())
-}
-
-/// Adds the words of the first parts as these fields, each on a line. The parts after them.
-#[tactic(auto, using(crate::proofs::Steps::shows_on))]
-fn show_fields<'a>(
-    field: &Field,
-    words: &mut Vec<Word>,
-    parts: &'a [Part],
-) -> Result<&'a [Part], Stop>
-    ensures { Gives (λ rest. (words.new.items, rest.now)) result (with_words words.old.items (show_fields field.now parts.now)) }
-{
-    match field {
-        Field::Then(first, second) => {
-            let rest = show_on_line(first, words, parts)?;
-            show_fields(second, words, rest)
-        }
-        _ => show(field, words, parts),
-    }
-}
-
 /// Adds the words of what goes on to the last bit. The parts after them.
 fn show_tail<'a>(tail: &Tail, words: &mut Vec<Word>, parts: &'a [Part]) -> Result<&'a [Part], Stop>
     ensures { Gives (λ rest. (words.new.items, rest.now)) result (with_words words.old.items (show_tail tail.now parts.now)) }
@@ -298,10 +254,8 @@ pub(crate) fn words_of(
     ensures { Gives (λ words. words.items) result (show_value declaration.now parts.now) }
 {
     let mut words = Vec::new(alloc);
-    let rest = show_fields(&declaration.fields, &mut words, parts)?;
-    let mut tail = Vec::new(alloc);
-    let rest = show_tail(&declaration.tail, &mut tail, rest)?;
-    push_line(&mut words, tail)?;
+    let rest = show(&declaration.fields, &mut words, parts)?;
+    let rest = show_tail(&declaration.tail, &mut words, rest)?;
     if rest.is_empty() {
         Ok(words)
     } else {
