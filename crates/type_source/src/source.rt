@@ -59,11 +59,11 @@ fn left_of(lefts: &[usize], tokens: usize) -> usize {
 
 /// The types that a text declares, in the order of the text.
 ///
-/// A text has at most 1 MiB, and at most 300 fields and braces are in one another and one
-/// after the other, as names and types are one after the other. What
-/// isn't read yet is refused by name: functions other than `$$CountOf`, labels, texts that are always the same,
-/// backslashes in quotes, and what the preprocessor reads. It's proved that a text declares the types that are returned.
-/// That an error has the first place from which on the text declares none, is tested.
+/// A text has at most 1 MiB. At most 300 fields, cases and braces are in one another and one after the other, and at
+/// most 300 names and types one after the other. What isn't read yet is refused: functions other than `$$CountOf`,
+/// labels, texts that are always the same, backslashes in quotes, an array that isn't the next one to be counted, and
+/// what the preprocessor reads. It's proved that a text declares the types that are returned. That an error has the
+/// first place from which on the text declares none, is tested.
 pub fn types_of(alloc: Global, text: &[u8]) -> Result<Vec<DeclaredType>, SourceError>
     ensures { IfOk result (λ types. IsSource types.items text.now) }
 {
