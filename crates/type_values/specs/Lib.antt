@@ -2,4 +2,3 @@ pub mod Text
 pub mod Words
 pub mod Layout
 pub mod Statement
-pub mod Laws

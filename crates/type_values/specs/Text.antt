@@ -1,5 +1,5 @@
 -- The text of one number and of one text of a value.
-use Rattle.std.specs.Prelude.{ℕ, ◌+◌, ◌-◌, ◌*◌, ◌%◌, ◌^◌, ◌==◌, Bool, true, nat_lt, min, if◌then◌else◌, List, [], ◌∷◌, ◌++◌, codes, Option, None, Some}
+use Rattle.std.specs.Prelude.{ℕ, ◌+◌, ◌-◌, ◌*◌, ◌%◌, ◌^◌, ◌==◌, ◌&&◌, not, Bool, true, nat_le, nat_lt, min, if◌then◌else◌, List, [], ◌∷◌, ◌++◌, codes, Option, None, Some}
 use Rattle.std.specs.List.{flat_map, list_all}
 use Rattle.std.specs.Fmt.{decimal, digits}
 use Rattle.byteorder.specs.Endian.{big_bytes}
@@ -10,8 +10,6 @@ use Rattle.res_types.specs.declared.field.NumberForm.TheVariants.{Boolean, Chara
 use Rattle.res_types.specs.declared.field.TextStyle.{TextStyle}
 use Rattle.res_types.specs.declared.field.TextStyle.TheVariants as styles
 use Rattle.fork_rez.specs.Text.{written, digits_text}
-use Rattle.type_source.specs.declared.run.Run.TheVariants.{Quoted}
-use Rattle.type_source.specs.Tokens.{goes_on}
 
 -- the first name of this number
 abbrev pub name_of : List NamedNumber → ℕ → Option (List ℕ)
@@ -43,9 +41,13 @@ signed_text width number = if nat_lt (number * 2) (numbers_of width) then decima
 abbrev pub hexadecimal_text : ℕ → List ℕ
 hexadecimal_text number = 36 ∷ digits 16 true number
 
+-- a byte is itself between single quotes: it's no control character, no backslash and no quote
+abbrev pub is_character : ℕ → Bool
+is_character byte = nat_le 32 byte && not (byte == 92) && not (byte == 39)
+
 -- a number as four characters between single quotes, if each of them is itself there, and else in digits
 abbrev pub literal_text : ℕ → List ℕ
-literal_text number = if list_all (goes_on (Quoted 39)) (big_bytes 4 number) then 39 ∷ (big_bytes 4 number ++ 39 ∷ []) else hexadecimal_text number
+literal_text number = if list_all is_character (big_bytes 4 number) then 39 ∷ (big_bytes 4 number ++ 39 ∷ []) else hexadecimal_text number
 
 -- a boolean as a word
 abbrev pub truth_text : ℕ → List ℕ
@@ -55,8 +57,8 @@ truth_text number = if number == 0 then codes "false" else codes "true"
 abbrev pub form_text : NumberForm → ℕ → ℕ → List ℕ
 form_text Boolean width number = truth_text number
 form_text Character width number = quoted (number % 256 ∷ [])
-form_text Binary width number = 48 ∷ 98 ∷ digits 2 true number
-form_text Octal width number = 48 ∷ digits 8 true number
+form_text Binary width number = 48 ∷ 98 ∷ digits 2 false number
+form_text Octal width number = 48 ∷ digits 8 false number
 form_text Signed width number = signed_text width number
 form_text Unsigned width number = decimal number
 form_text Hexadecimal width number = hexadecimal_text number

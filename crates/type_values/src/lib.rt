@@ -1,12 +1,9 @@
 //! Values of declared types as `resource` statements of Rez.
 #![tactic(auto)]
 
-mod laws;
 mod layout;
 mod number;
 mod quoted;
 pub mod statement;
 mod word;
 mod words;
-
-pub use laws::value_laws;

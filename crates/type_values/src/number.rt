@@ -4,9 +4,7 @@ ghost use Rattle.std.specs.Prelude.{◌≡◌, ◌∷◌, ◌++◌, OnOk, option
 ghost use Rattle.std.specs.Fmt.{decimal, digits};
 ghost use Rattle.std.specs.List.{list_all};
 ghost use Rattle.byteorder.specs.Endian.{big_bytes};
-ghost use Rattle.type_source.specs.declared.run.Run.TheVariants.{Quoted};
-ghost use Rattle.type_source.specs.Tokens.{goes_on};
-ghost use Rattle.type_values.specs.Text.{form_text, hexadecimal_text, literal_text, name_of, number_text, numbers_of, signed_text, truth_text};
+ghost use Rattle.type_values.specs.Text.{form_text, hexadecimal_text, is_character, literal_text, name_of, number_text, numbers_of, signed_text, truth_text};
 
 use crate::quoted::push_quoted;
 use byteorder::{BE, ByteOrder};
@@ -58,7 +56,7 @@ fn push_signed(alloc: Global, out: &mut Vec<u8>, width: u8, number: u32) -> Resu
 
 /// Adds a number in binary digits.
 fn push_binary(alloc: Global, out: &mut Vec<u8>, number: u32) -> Result<(), AllocError>
-    ensures { OnOk result (out.new.items ≡ out.old.items ++ 48 ∷ 98 ∷ digits 2 true number) }
+    ensures { OnOk result (out.new.items ≡ out.old.items ++ 48 ∷ 98 ∷ digits 2 false number) }
 {
     let digits = format!(in alloc; "{number:b}")?;
     out.extend_from_slice(b"0b")?;
@@ -68,7 +66,7 @@ fn push_binary(alloc: Global, out: &mut Vec<u8>, number: u32) -> Result<(), Allo
 
 /// Adds a number in octal digits.
 fn push_octal(alloc: Global, out: &mut Vec<u8>, number: u32) -> Result<(), AllocError>
-    ensures { OnOk result (out.new.items ≡ out.old.items ++ 48 ∷ digits 8 true number) }
+    ensures { OnOk result (out.new.items ≡ out.old.items ++ 48 ∷ digits 8 false number) }
 {
     let digits = format!(in alloc; "{number:o}")?;
     out.push(b'0')?;
@@ -88,7 +86,7 @@ fn push_hexadecimal(alloc: Global, out: &mut Vec<u8>, number: u32) -> Result<(),
 
 /// Whether each of these bytes is itself between single quotes.
 fn are_characters(bytes: &[u8]) -> bool
-    ensures { result ≡ list_all (goes_on (Quoted 39)) bytes.now }
+    ensures { result ≡ list_all is_character bytes.now }
 {
     bytes
         .iter()
