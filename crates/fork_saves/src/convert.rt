@@ -13,7 +13,7 @@ use crate::save::{put_two, save_to};
 use file_acts::acts::{Acts, identity_of};
 use file_acts::found::{fork_found, refused_as, table_found};
 use file_acts::host::Host;
-use file_acts::input::{read, read_other};
+use file_acts::input::read_other;
 use file_acts::message::{DONE, Problem};
 use fork_answer::{Failure, NoFork};
 use fork_edit::convert::{Loss, NotConverted, Rewritten, Transfer, converted, holds_data};
@@ -235,8 +235,13 @@ fn would_lose(alloc: Global, lost: &[Loss]) -> Problem {
     }
 }
 
-/// Writes a file in another container. The result is the exit status.
-pub fn convert(host: &Host<'_>, asked: &Conversion<'_>, acts: &mut Acts) -> Result<u8, Problem>
+/// Writes a file with these bytes in another container. The result is the exit status.
+pub fn convert(
+    host: &Host<'_>,
+    asked: &Conversion<'_>,
+    bytes: &[u8],
+    acts: &mut Acts,
+) -> Result<u8, Problem>
     ensures done { IfOk result (λ status. status ≡ DONE) }
     ensures one_file { option_map (λ path. path.now) asked.now.data ≡ Some (written_file asked.now.target) → result ≡ Err Problem.OneFile }
     ensures dry { asked.now.target.is_dry ≡ true → WritesNothing acts.old.events acts.new.events }
@@ -244,23 +249,7 @@ pub fn convert(host: &Host<'_>, asked: &Conversion<'_>, acts: &mut Acts) -> Resu
     ensures seen { IsForNew asked.now → ShowsSaved acts.old.events acts.new.events }
 {
     let order = order_if(host, asked, acts)?;
-    convert_in(host, asked, order, acts)
-}
-
-/// Reads a file, and writes it in another container.
-fn convert_in(
-    host: &Host<'_>,
-    asked: &Conversion<'_>,
-    order: Order,
-    acts: &mut Acts,
-) -> Result<u8, Problem>
-    ensures done { IfOk result (λ status. status ≡ DONE) }
-    ensures dry { asked.now.target.is_dry ≡ true → WritesNothing acts.old.events acts.new.events }
-    ensures saved { IsForNew asked.now → IfOk result (λ _. EndsSaved acts.new.events) }
-    ensures seen { IsForNew asked.now → ShowsSaved acts.old.events acts.new.events }
-{
-    let bytes = read(host, asked.target.file, acts)?;
-    convert_bytes(host, asked, order, &bytes, acts)
+    convert_bytes(host, asked, order, bytes, acts)
 }
 
 /// Writes the file in these bytes in another container.

@@ -93,6 +93,7 @@ pub record IsShowing (command : List ℕ) (found : Found) (asked : Showing) : Ty
   pub request : IsRequest command found asked.request
   pub files : texts_of asked.files.items ≡ words_of found (codes "file")
   pub titles : asked.titles ≡ titles_of found
+  pub recursive : asked.is_recursive ≡ is_given found (codes "recursive")
   pub output : text_of asked.output ≡ first_value found (codes "output")
 
 -- what is salvaged: a fork by `-o`, or else the data fork by `--data`; nothing is written without them

@@ -42,6 +42,8 @@ pub struct Showing<'a> {
     pub request: Request,
     pub files: Vec<&'a str>,
     pub titles: Titles,
+    /// Whether all is shown that is below a folder of a disk image.
+    pub is_recursive: bool,
     pub output: Option<&'a str>,
 }
 
@@ -352,6 +354,7 @@ fn shown<'a>(
         request,
         files,
         titles: titles_of(matches),
+        is_recursive: flag(matches, "recursive"),
         output: matches.get_str("output"),
     }))
 }

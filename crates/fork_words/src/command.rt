@@ -9,13 +9,16 @@ const ABOUT: &str = "Shows and changes what the resource forks of old Macintosh 
 /// What its help ends with.
 const EXAMPLES: &str =
     "FILE is a file that holds a resource fork, alone or in AppleSingle, AppleDouble, MacBinary or BinHex.
-- is the standard input.
+- is the standard input. Where no file has this name, IMAGE:PATH is a file in a disk image, which is
+only read: in PATH / is between names, and : is a Macintosh's /.
 
 Examples:
   resfork ls Game.rsrc                 all resources of a file
   resfork ls -t STR# -t TEXT *.rsrc    those of two types, of several files
   resfork get Game.rsrc TEXT 128       the bytes of a resource, by its id
   resfork get Game.rsrc TEXT 'Read me' -o readme.txt
+  resfork ls -R disk.img               all folders and files in a disk image
+  resfork ls 'disk.img:Games/Doom'     the resources of one of these files
   resfork info Game.bin                what a file is
   resfork check Game.rsrc              whether a fork is damaged, and where
   resfork salvage bad.rsrc -o OUT      all resources that can be read of a damaged fork
@@ -251,6 +254,8 @@ const OPTIONS: &[Word] = &[
         "Shows letters that aren't ASCII as \\xHH, and not as the characters that they are in MacRoman"),
     word!("ls" "info" "check", "json", Form::Long("json"), Values::Flag;
         "One line of JSON for each file"),
+    word!("ls", "recursive", Form::Short('R', "recursive"), Values::Flag, rival: Some("json");
+        "Of a disk image or a folder in it: all that is below, and not only what is directly in it"),
     word!("ls", "paths", Form::Long("paths"), Values::Flag, rival: Some("json");
         "Each line begins with the file's name, also that of one file"),
     word!("ls", "sha256", Form::Long("sha256"), Values::Flag, rival: Some("types");

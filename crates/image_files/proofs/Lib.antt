@@ -1,2 +1,3 @@
 pub mod ForksRead
 pub mod Reading
+pub mod Missing

@@ -17,7 +17,8 @@ use Rattle.hfs_volume.specs.Volume as hfs
 use Rattle.hfs_volume.specs.declared.fault.VolumeFault.{VolumeFault}
 use Rattle.mfs_volume.specs.Volume as mfs
 use Rattle.mfs_volume.specs.declared.fault.MfsFault.{MfsFault}
-use Rattle.volume_names.specs.Things.{ThingRead, thing_read, things_of}
+use Rattle.hfs_volume.specs.declared.entry.Entry.{Entry}
+use Rattle.volume_names.specs.Things.{things_of}
 use Rattle.image_files.specs.declared.contents.Contents.{Contents}
 use Rattle.image_files.specs.declared.files.Files.{Files}
 use Rattle.image_files.specs.declared.files.Files.TheVariants as files
@@ -28,7 +29,7 @@ use Rattle.image_files.specs.declared.files.VolumeRefusal.TheVariants.{Partition
 
 -- the folders and files of a volume, in its own order
 pub data FilesRead : Type 0 where
-  OfHfs : hfs.VolumeRead → List ThingRead → FilesRead
+  OfHfs : hfs.VolumeRead → List Entry → FilesRead
   OfMfs : mfs.VolumeRead → FilesRead
 
 -- a volume with its bytes
@@ -81,7 +82,7 @@ contents_in file = contents_of (image_in file)
 
 -- What a reading gives.
 abbrev pub files_read : Files → FilesRead
-files_read (files.Hfs volume things) = OfHfs (read_of volume) (map thing_read things.items)
+files_read (files.Hfs volume things) = OfHfs (read_of volume) things.items
 files_read (files.Mfs volume) = OfMfs (mfs.read_of volume)
 
 abbrev pub result_read : Result Files VolumeRefusal → Result FilesRead VolumeRefusal

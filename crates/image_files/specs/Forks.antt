@@ -12,7 +12,6 @@ use Rattle.hfs_volume.specs.Opening.{read_of as hfs_read}
 use Rattle.mfs_volume.specs.declared.directory.MfsFile.{MfsFile}
 use Rattle.mfs_volume.specs.declared.volume.MfsVolume.{MfsVolume}
 use Rattle.mfs_volume.specs.Volume as mfs
-use Rattle.volume_names.specs.declared.things.Thing.{Thing}
 use Rattle.image_files.specs.declared.files.Files.{Files}
 use Rattle.image_files.specs.declared.files.Files.TheVariants as files
 use Rattle.image_files.specs.declared.refusal.FileRefusal.{FileRefusal}
@@ -32,9 +31,9 @@ abbrev pub mfs_said : MfsVolume → MfsFile → Which → List ℕ → Result (L
 mfs_said volume file which bytes =
     unless_fault (Chain which) (mfs.fork_bytes bytes (mfs.read_of volume) file which) (mfs.fork_fault (mfs.read_of volume) file which)
 
-abbrev pub hfs_fork : List ℕ → Volume → Which → Option Thing → Result (List ℕ) FileRefusal
+abbrev pub hfs_fork : List ℕ → Volume → Which → Option Entry → Result (List ℕ) FileRefusal
 hfs_fork bytes volume which None = Err NoFile
-hfs_fork bytes volume which (Some thing) = hfs_said volume thing.entry which bytes
+hfs_fork bytes volume which (Some thing) = hfs_said volume thing which bytes
 
 abbrev pub mfs_fork : List ℕ → MfsVolume → Which → Option MfsFile → Result (List ℕ) FileRefusal
 mfs_fork bytes volume which None = Err NoFile

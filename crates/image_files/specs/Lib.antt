@@ -6,3 +6,4 @@ pub mod Contents
 pub mod Refusals
 pub mod Forks
 pub mod FilesRead
+pub mod Finding

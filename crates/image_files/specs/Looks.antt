@@ -22,9 +22,9 @@ volume_name (files.Hfs volume things) = hfs_name volume.mdb
 volume_name (files.Mfs volume) = mfs_name volume.info
 
 abbrev pub name_bytes : Files → ℕ → Option (List ℕ)
-name_bytes (files.Hfs volume things) thing = option_map (λ t. hfs_bytes t.entry.name) (slice_get things.items thing)
+name_bytes (files.Hfs volume things) thing = option_map (λ t. hfs_bytes t.name) (slice_get things.items thing)
 name_bytes (files.Mfs volume) thing = option_map mfs_bytes (slice_get volume.files.items thing)
 
 abbrev pub thing_info : Files → ℕ → Option Info
-thing_info (files.Hfs volume things) thing = option_map (λ t. entry_info t.entry) (slice_get things.items thing)
+thing_info (files.Hfs volume things) thing = option_map entry_info (slice_get things.items thing)
 thing_info (files.Mfs volume) thing = option_map (λ f. File (file_info f)) (slice_get volume.files.items thing)

@@ -1,11 +1,11 @@
 //! The folders and files of a volume.
 
 use disk_image::fault::ImageFault;
+use hfs_volume::entry::Entry;
 use hfs_volume::fault::VolumeFault;
 use hfs_volume::volume::Volume;
 use mfs_volume::fault::MfsFault;
 use mfs_volume::volume::MfsVolume;
-use volume_names::things::Thing;
 
 /// Why a volume of an image isn't read: the first condition that doesn't hold.
 #[derive(Clone, Copy, Debug, PartialEq, Eq)]
@@ -21,6 +21,6 @@ pub enum VolumeRefusal {
 /// What a volume has: its folders and files in its own order. An MFS volume has no folders.
 #[derive(Drop)]
 pub enum Files {
-    Hfs(Volume, Vec<Thing>),
+    Hfs(Volume, Vec<Entry>),
     Mfs(MfsVolume),
 }

@@ -77,7 +77,7 @@ fn ranges_in(
 {
     match files {
         Files::Hfs(volume, things) => match things.get(thing) {
-            Some(thing) => ranges_in_hfs(alloc, volume, &thing.entry, which),
+            Some(thing) => ranges_in_hfs(alloc, volume, thing, which),
             None => Err(FileRefusal::NoFile),
         },
         Files::Mfs(volume) => match volume.files.get(thing) {

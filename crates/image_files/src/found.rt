@@ -1,17 +1,21 @@
 //! Which volume, folder or file a path names.
 
+ghost use Rattle.std.specs.Prelude.{◌≡◌, ◌+◌, ◌<◌, ◌^◌, [], None, length, map, position, IfOk};
+ghost use Rattle.volume_names.specs.Paths.{items_of};
+ghost use Rattle.image_files.specs.Finding.{AreFolders, Finds, FindsBelow, FindsIn, FindsNames, IsMissing, file_named, found_at, is_called, number_of, thing_named, volume_by, volume_named};
+ghost use Rattle.image_files.specs.FilesRead.{volume_at};
+
 use crate::contents::{Contents, Place};
 use crate::files::Files;
 use crate::item::Info;
 use crate::volume::VolumeFiles;
-use hfs_volume::name::Name;
 use image_paths::ImagePath;
 use mfs_volume::volume::MfsVolume;
 use std::alloc::{AllocError, AllocFailed, Global};
 use thiserror::Error;
-use volume_names::find_thing;
+use volume_names::folders::Folders;
 use volume_names::letters::{Rule, is_same_text};
-use volume_names::things::Thing;
+use volume_names::{find_thing, folders_by_id};
 
 /// What a path names.
 #[derive(Clone, Copy, Debug, PartialEq, Eq)]
@@ -63,81 +67,76 @@ impl<T: Drop> From<AllocFailed<T>> for NotFound {
     }
 }
 
-/// The most bytes of a name in an HFS volume.
-const LONGEST: usize = 31;
-
-/// The names of a path up to the first that an HFS volume can't have.
-fn hfs_names(alloc: Global, names: &[Vec<u8>]) -> Result<Vec<Name>, AllocError> {
-    let mut path = Vec::new(alloc);
-    for name in names {
-        if name.len() > LONGEST {
-            return Ok(path);
-        }
-        path.push(Name::from_bytes(name))?;
-    }
-    Ok(path)
-}
-
-/// How many names of a path lead to a folder or a file, one after another.
-fn leading(things: &[Thing], path: &[Name]) -> usize {
-    for count in 0..path.len() {
-        if find_thing(things, &path[..count + 1]).is_none() {
-            return count;
-        }
-    }
-    path.len()
-}
-
-/// Which thing a path names in an HFS volume, or how many of its names lead to one.
-fn find_hfs(
-    alloc: Global,
-    things: &[Thing],
-    names: &[Vec<u8>],
-) -> Result<Result<usize, usize>, AllocError> {
-    let path = hfs_names(alloc, names)?;
-    let count = leading(things, &path);
-    if count < names.len() {
-        return Ok(Err(count));
-    }
-    match find_thing(things, &path) {
-        Some(thing) => Ok(Ok(thing)),
-        None => Ok(Err(0)),
-    }
-}
-
 /// The first file of an MFS volume with a name that is the same by a rule.
-fn find_by(rule: Rule, volume: &MfsVolume, name: &[u8]) -> Option<usize> {
+fn find_by(rule: Rule, volume: &MfsVolume, name: &[u8]) -> Option<usize>
+    ensures { result ≡ position (is_called rule name.now) volume.now.files.items }
+{
     volume
         .files
         .iter()
         .position(|file| is_same_text(rule, file.name_bytes(), name))
 }
 
-/// Which file a path of one name or more names in an MFS volume, or how many of its names lead to one.
-fn find_mfs(volume: &MfsVolume, names: &[Vec<u8>]) -> Result<usize, usize> {
-    let [name, others @ ..] = names else {
-        return Err(0);
+/// Which file a path names in an MFS volume, which has no folders.
+fn find_mfs(volume: &MfsVolume, names: &[Vec<u8>]) -> Option<usize>
+    ensures { result ≡ file_named volume.now (map items_of names.now) }
+{
+    let [name] = names else {
+        return None;
     };
-    let found = match find_by(Rule::Bytes, volume, name) {
+    match find_by(Rule::Bytes, volume, name) {
         Some(file) => Some(file),
         None => find_by(Rule::Letters, volume, name),
-    };
-    match found {
-        Some(file) if others.is_empty() => Ok(file),
-        Some(_) => Err(1),
-        None => Err(0),
     }
 }
 
-/// Which thing a path of one name or more names in a volume, or how many of its names lead to one.
-fn find_thing_in(
-    alloc: Global,
-    files: &Files,
-    names: &[Vec<u8>],
-) -> Result<Result<usize, usize>, AllocError> {
+/// The folders of a volume; an MFS volume has none.
+pub(crate) fn folders_of(alloc: Global, files: &Files) -> Result<Folders, AllocError>
+    ensures { IfOk result (λ folders. AreFolders folders files.now) }
+{
     match files {
-        Files::Hfs(_, things) => find_hfs(alloc, things, names),
-        Files::Mfs(volume) => Ok(find_mfs(volume, names)),
+        Files::Hfs(volume, _) => folders_by_id(alloc, &volume.entries),
+        Files::Mfs(_) => Ok(Folders::new(alloc)),
+    }
+}
+
+/// Which thing a path names in a volume with these folders.
+fn find_thing_in(folders: &Folders, files: &Files, names: &[Vec<u8>]) -> Option<usize>
+    requires { AreFolders folders.now files.now }
+    ensures { result ≡ thing_named files.now (map items_of names.now) }
+{
+    match files {
+        Files::Hfs(_, things) => find_thing(folders, things, names),
+        Files::Mfs(volume) => find_mfs(volume, names),
+    }
+}
+
+/// How many names are before the first one with which a path names nothing, which names nothing as a whole.
+fn leading(folders: &Folders, files: &Files, names: &[Vec<u8>]) -> usize
+    requires folders { AreFolders folders.now files.now }
+    requires some { 0 < length names.now }
+    requires missing { thing_named files.now (map items_of names.now) ≡ None }
+    ensures { IsMissing files.now (map items_of names.now) result }
+{
+    for count in 1..names.len() {
+        if find_thing_in(folders, files, &names[..count]).is_none() {
+            return count - 1;
+        }
+    }
+    names.len().saturating_sub(1)
+}
+
+/// What a thing of a volume of this number is.
+fn found_at(number: usize, volume: &VolumeFiles, thing: usize) -> Found
+    ensures { result ≡ found_at number volume.now.files thing }
+{
+    let place = Place {
+        volume: number,
+        thing,
+    };
+    match volume.info(thing) {
+        Some(Info::Folder(_)) => Found::Folder(place),
+        Some(Info::File(_)) | None => Found::File(place),
     }
 }
 
@@ -148,26 +147,27 @@ fn find_in(
     volume: &VolumeFiles,
     before: usize,
     names: &[Vec<u8>],
-) -> Result<Found, NotFound> {
+) -> Result<Found, NotFound>
+    requires { before + length names.now < 2 ^ 64 }
+    ensures { FindsIn number volume.now.files before (map items_of names.now) result }
+{
     if names.is_empty() {
         return Ok(Found::Volume(number));
     }
-    let thing = match find_thing_in(alloc, &volume.files, names)? {
-        Ok(thing) => thing,
-        Err(count) => return Err(NotFound::Missing(before.saturating_add(count).saturating_add(1))),
-    };
-    let place = Place {
-        volume: number,
-        thing,
-    };
-    match volume.info(thing) {
-        Some(Info::Folder(_)) => Ok(Found::Folder(place)),
-        Some(Info::File(_)) | None => Ok(Found::File(place)),
+    let folders = folders_of(alloc, &volume.files)?;
+    match find_thing_in(&folders, &volume.files, names) {
+        Some(thing) => Ok(found_at(number, volume, thing)),
+        None => {
+            let count = leading(&folders, &volume.files, names);
+            Err(NotFound::Missing(before + count + 1))
+        }
     }
 }
 
 /// The number that the digits of a text are, if it has one to five and nothing else.
-fn number_of(text: &[u8]) -> Option<u32> {
+fn number_of(text: &[u8]) -> Option<u32>
+    ensures { result ≡ number_of text.now }
+{
     if text.is_empty() || text.len() > 5 {
         return None;
     }
@@ -185,7 +185,9 @@ fn number_of(text: &[u8]) -> Option<u32> {
 
 impl Contents {
     /// The first volume whose name is the same by a rule.
-    fn volume_by(&self, rule: Rule, name: &[u8]) -> Option<usize> {
+    fn volume_by(&self, rule: Rule, name: &[u8]) -> Option<usize>
+        ensures { result ≡ volume_by rule self.now.volumes.items name.now }
+    {
         self.volumes.iter().position(|placed| match &placed.found {
             Ok(volume) => is_same_text(rule, volume.name().as_bytes(), name),
             Err(_) => false,
@@ -193,7 +195,9 @@ impl Contents {
     }
 
     /// The volume that a name is of: `#` and the number of a partition, or the name of a volume.
-    fn volume_of(&self, name: &[u8]) -> Option<usize> {
+    fn volume_of(&self, name: &[u8]) -> Option<usize>
+        ensures { result ≡ volume_named self.now.volumes.items name.now }
+    {
         if let [b'#', digits @ ..] = name {
             if let Some(number) = number_of(digits) {
                 return self
@@ -215,18 +219,20 @@ impl Contents {
         number: usize,
         before: usize,
         names: &[Vec<u8>],
-    ) -> Result<Found, NotFound> {
-        let Some(placed) = self.volumes.get(number) else {
-            return Err(NotFound::Missing(before));
-        };
-        match &placed.found {
-            Ok(volume) => find_in(alloc, number, volume, before, names),
-            Err(_) => Err(NotFound::Refused(number)),
+    ) -> Result<Found, NotFound>
+        requires { before + length names.now < 2 ^ 64 }
+        ensures { FindsBelow number (volume_at self.now number) before (map items_of names.now) result }
+    {
+        match self.volume_at(number) {
+            Some(volume) => find_in(alloc, number, volume, before, names),
+            None => Err(NotFound::Refused(number)),
         }
     }
 
     /// What the names of a path lead to.
-    fn find_names(&self, alloc: Global, names: &[Vec<u8>]) -> Result<Found, NotFound> {
+    fn find_names(&self, alloc: Global, names: &[Vec<u8>]) -> Result<Found, NotFound>
+        ensures { FindsNames self.now (map items_of names.now) result }
+    {
         if self.volumes.len() == 1 {
             return self.find_below(alloc, 0, 0, names);
         }
@@ -243,7 +249,9 @@ impl Contents {
 /// What a path names. Names are compared byte by byte; where nothing has just these, as the File Manager compares them,
 /// where case doesn't count. Where an image has several volumes, the first name is a volume's, or `#` and the number of its
 /// partition.
-pub fn find(alloc: Global, contents: &Contents, path: &ImagePath) -> Result<Found, NotFound> {
+pub fn find(alloc: Global, contents: &Contents, path: &ImagePath) -> Result<Found, NotFound>
+    ensures { Finds contents.now path.now result }
+{
     match contents.find_names(alloc, &path.names)? {
         Found::File(_) if path.is_folder => Err(NotFound::NotFolder),
         found => Ok(found),

@@ -2,7 +2,7 @@
 
 use crate::contents::{Contents, Place};
 use crate::files::Files;
-use crate::found::Found;
+use crate::found::{Found, folders_of};
 use crate::item::{FileInfo, FolderInfo, Info};
 use crate::message::{FormatText, KnownText, VolumeText};
 use crate::volume::{PlacedVolume, VolumeFiles};
@@ -10,13 +10,14 @@ use file_facts::moment_of;
 use fork_list::KindText;
 use fork_list::letters::Letters;
 use hfs_tree::number::{read_four, read_two};
+use hfs_volume::entry::Entry;
 use hfs_volume::name::Name;
 use image_paths::NameText;
 use mac_base::resource::ResType;
 use std::alloc::{AllocError, Global};
 use std::fmt;
-use volume_names::letters::{Rule, is_same_path};
-use volume_names::things::Thing;
+use volume_names::folders::Folders;
+use volume_names::path_of_thing;
 
 /// How far down a list goes.
 #[derive(Clone, Copy, Debug, PartialEq, Eq)]
@@ -27,33 +28,48 @@ pub enum Depth {
     All,
 }
 
-/// Whether a thing is in the folder of a path, directly or below.
-fn is_in(depth: Depth, folder: &[Name], thing: &Thing) -> bool {
-    let count = folder.len();
-    let is_deep = match depth {
-        Depth::Here => thing.path.len() == count + 1,
-        Depth::All => thing.path.len() > count,
-    };
-    is_deep
-        && is_same_path(
-            Rule::Bytes,
-            &thing.path[..count.min(thing.path.len())],
-            folder,
-        )
+/// The id of the root of an HFS volume.
+const ROOT: u32 = 2;
+
+/// The most folders that a path goes through, with the root.
+const MOST_FOLDERS: usize = 256;
+
+/// Whether the folder with an id is another one, or below it.
+fn is_below(folders: &Folders, id: u32, other: u32) -> bool {
+    let mut id = id;
+    for _ in 0..MOST_FOLDERS {
+        if id == other {
+            return true;
+        }
+        let Some(folder) = folders.get(&id) else {
+            return false;
+        };
+        id = folder.parent;
+    }
+    false
 }
 
-/// Adds the folders and files of a volume that are in the folder of a path.
+/// Whether a thing is in the folder with an id, directly or below.
+fn is_in(depth: Depth, folders: &Folders, id: u32, thing: &Entry) -> bool {
+    match depth {
+        Depth::Here => thing.parent == id,
+        Depth::All => is_below(folders, thing.parent, id),
+    }
+}
+
+/// Adds the folders and files of a volume that are in the folder with an id.
 fn push_places(
     places: &mut Vec<Place>,
     number: usize,
     files: &Files,
-    folder: &[Name],
+    folders: &Folders,
+    id: u32,
     depth: Depth,
 ) -> Result<(), AllocError> {
     match files {
         Files::Hfs(_, things) => {
             for (index, thing) in things.iter().enumerate() {
-                if is_in(depth, folder, thing) {
+                if is_in(depth, folders, id, thing) {
                     places.push(Place {
                         volume: number,
                         thing: index,
@@ -73,21 +89,36 @@ fn push_places(
     Ok(())
 }
 
+/// The folders of a volume, where it is read.
+fn folders_in(alloc: Global, contents: &Contents, number: usize) -> Result<Folders, AllocError> {
+    match contents.volume_at(number) {
+        Some(volume) => folders_of(alloc, &volume.files),
+        None => Ok(Folders::new(alloc)),
+    }
+}
+
 impl Contents {
-    /// The path of a folder or a file in its volume.
-    fn path_of(&self, place: Place) -> &[Name] {
-        match self.volume_at(place.volume) {
-            Some(
-                VolumeFiles {
-                    view: _,
-                    files: Files::Hfs(_, things),
-                },
-            ) => match things.get(place.thing) {
-                Some(thing) => &thing.path,
-                None => &[],
+    /// The path of a folder or a file in its volume, of which these are the folders.
+    fn path_of(
+        &self,
+        alloc: Global,
+        folders: &Folders,
+        place: Place,
+    ) -> Result<Vec<Name>, AllocError> {
+        if let Some(
+            VolumeFiles {
+                view: _,
+                files: Files::Hfs(_, things),
             },
-            Some(_) | None => &[],
+        ) = self.volume_at(place.volume)
+        {
+            if let Some(thing) = things.get(place.thing) {
+                if let Some(path) = path_of_thing(alloc, folders, thing)? {
+                    return Ok(path);
+                }
+            }
         }
+        Ok(Vec::new(alloc))
     }
 
     /// What it says of a folder or a file.
@@ -95,16 +126,20 @@ impl Contents {
         self.volume_at(place.volume)?.info(place.thing)
     }
 
-    /// Adds the folders and files of a volume that are in the folder of a path.
+    /// Adds the folders and files of a volume that are in the folder with an id.
     fn push_in(
         &self,
+        alloc: Global,
         places: &mut Vec<Place>,
         number: usize,
-        folder: &[Name],
+        id: u32,
         depth: Depth,
     ) -> Result<(), AllocError> {
         match self.volume_at(number) {
-            Some(volume) => push_places(places, number, &volume.files, folder, depth),
+            Some(volume) => {
+                let folders = folders_of(alloc, &volume.files)?;
+                push_places(places, number, &volume.files, &folders, id, depth)
+            }
             None => Ok(()),
         }
     }
@@ -140,12 +175,14 @@ pub fn places_in(
     match found {
         Found::Image => {
             for number in 0..contents.volumes.len() {
-                contents.push_in(&mut places, number, &[], depth)?;
+                contents.push_in(alloc, &mut places, number, ROOT, depth)?;
             }
         }
-        Found::Volume(number) => contents.push_in(&mut places, number, &[], depth)?,
+        Found::Volume(number) => contents.push_in(alloc, &mut places, number, ROOT, depth)?,
         Found::Folder(place) => {
-            contents.push_in(&mut places, place.volume, contents.path_of(place), depth)?;
+            if let Some(Info::Folder(folder)) = contents.info(place) {
+                contents.push_in(alloc, &mut places, place.volume, folder.id, depth)?;
+            }
         }
         Found::File(place) => places.push(place)?,
     }
@@ -185,16 +222,18 @@ fn push_volume(
 
 /// Adds the path of a folder or a file.
 fn push_place(
+    alloc: Global,
     text: &mut String,
     letters: Letters,
     contents: &Contents,
+    folders: &Folders,
     place: Place,
 ) -> Result<(), AllocError> {
     push_volume(text, letters, contents, place.volume)?;
     let Some(volume) = contents.volume_at(place.volume) else {
         return Ok(());
     };
-    let path = contents.path_of(place);
+    let path = contents.path_of(alloc, folders, place)?;
     for name in &path[..path.len().saturating_sub(1)] {
         push_folder(text, letters, name.as_bytes())?;
     }
@@ -222,7 +261,8 @@ pub fn path_text(
         Found::Image => {}
         Found::Volume(number) => push_volume(&mut text, letters, contents, number)?,
         Found::Folder(place) | Found::File(place) => {
-            push_place(&mut text, letters, contents, place)?;
+            let folders = folders_in(alloc, contents, place.volume)?;
+            push_place(alloc, &mut text, letters, contents, &folders, place)?;
         }
     }
     Ok(text)
@@ -286,30 +326,86 @@ impl fmt::Display for InfoColumns {
 
 /// The line of a folder or a file, with its end: type, creator, bytes of the data and of the resource fork, the day when it
 /// was changed, and its path; of a folder how many things are in it.
-pub fn line_of(
+fn push_line(
     alloc: Global,
+    text: &mut String,
     letters: Letters,
     contents: &Contents,
+    folders: &Folders,
     place: Place,
-) -> Result<String, AllocError> {
-    let mut text = String::new(alloc);
+) -> Result<(), AllocError> {
     if let Some(info) = contents.info(place) {
         let columns = InfoColumns { letters, info };
         write!(text, "{columns} ")?;
-        push_place(&mut text, letters, contents, place)?;
+        push_place(alloc, text, letters, contents, folders, place)?;
         text.push('\n')?;
     }
-    Ok(text)
+    Ok(())
+}
+
+/// How many bytes a piece of a list has, or somewhat more.
+const PIECE: usize = 65536;
+
+/// A list of folders and files of an image, which is written in pieces: so it may be longer than the memory.
+#[derive(Drop)]
+pub struct Listing {
+    letters: Letters,
+    places: Vec<Place>,
+    /// The folders of each volume.
+    folders: Vec<Folders>,
+    /// How many of the places are written.
+    done: usize,
+}
+
+impl Listing {
+    /// The list of what is in what was found, so far down, with letters shown so.
+    pub fn new(
+        alloc: Global,
+        letters: Letters,
+        contents: &Contents,
+        found: Found,
+        depth: Depth,
+    ) -> Result<Listing, AllocError> {
+        let places = places_in(alloc, contents, found, depth)?;
+        let mut folders = Vec::new(alloc);
+        for number in 0..contents.volumes.len() {
+            folders.push(folders_in(alloc, contents, number)?)?;
+        }
+        Ok(Listing {
+            letters,
+            places,
+            folders,
+            done: 0,
+        })
+    }
+
+    /// How many lines it has.
+    pub fn len(&self) -> usize {
+        self.places.len()
+    }
+
+    /// The next lines; none after the last one.
+    pub fn next_lines(&mut self, alloc: Global, contents: &Contents) -> Result<String, AllocError> {
+        let mut text = String::new(alloc);
+        let done = self.done.min(self.places.len());
+        for place in &self.places[done..] {
+            if text.len() > PIECE {
+                return Ok(text);
+            }
+            if let Some(folders) = self.folders.get(place.volume) {
+                push_line(alloc, &mut text, self.letters, contents, folders, *place)?;
+            }
+            self.done = self.done.saturating_add(1);
+        }
+        Ok(text)
+    }
 }
 
 /// How many files and folders a volume's list has.
 fn counts(volume: &VolumeFiles) -> (usize, usize) {
     match &volume.files {
         Files::Hfs(_, things) => {
-            let folders = things
-                .iter()
-                .filter(|thing| thing.entry.is_folder())
-                .count();
+            let folders = things.iter().filter(|thing| thing.is_folder()).count();
             (things.len() - folders, folders)
         }
         Files::Mfs(volume) => (volume.files.len(), 0),

@@ -34,7 +34,7 @@ impl VolumeFiles {
         ensures { option_map (λ name. name.now) result ≡ name_bytes self.now.files thing }
     {
         match &self.files {
-            Files::Hfs(_, things) => Some(things.get(thing)?.entry.name.as_bytes()),
+            Files::Hfs(_, things) => Some(things.get(thing)?.name.as_bytes()),
             Files::Mfs(volume) => Some(volume.files.get(thing)?.name_bytes()),
         }
     }
@@ -44,7 +44,7 @@ impl VolumeFiles {
         ensures { result ≡ thing_info self.now.files thing }
     {
         match &self.files {
-            Files::Hfs(_, things) => Some(entry_info(&things.get(thing)?.entry)),
+            Files::Hfs(_, things) => Some(entry_info(things.get(thing)?)),
             Files::Mfs(volume) => Some(Info::File(file_info(volume.files.get(thing)?))),
         }
     }

@@ -7,7 +7,7 @@ ghost use Rattle.fork_disk.specs.Disk.{Rose};
 use crate::contents::{Contents, Place};
 use crate::file::Forks;
 use crate::found::{Found, NotFound, find};
-use crate::lines::{Depth, line_of, path_text, places_in};
+use crate::lines::{Depth, Listing, path_text, places_in};
 use crate::message::ImageText;
 use crate::refusal::FileRefusal;
 use crate::still::StillDisk;
@@ -196,7 +196,14 @@ fn lists_a_volume(rt: HostRuntime) -> Result<(), Fail> {
     let contents = contents?;
     let places = places_in(rt.alloc(), &contents, Found::Volume(0), Depth::Here)?;
     assert_eq!(rt; places.as_slice(), [FIRST].as_slice());
-    let line = line_of(rt.alloc(), Letters::Roman, &contents, FIRST)?;
+    let mut listing = Listing::new(
+        rt.alloc(),
+        Letters::Roman,
+        &contents,
+        Found::Volume(0),
+        Depth::Here,
+    )?;
+    let line = listing.next_lines(rt.alloc(), &contents)?;
     assert_eq!(rt;
         line.as_str(),
         "TEXT ttxt         5         3 2000-01-02 9:41\n"

@@ -8,7 +8,8 @@ use Rattle.fork_words.specs.declared.work.Place.{Place}
 use Rattle.fork_words.specs.declared.work.Place.TheVariants.{New, Into}
 use Rattle.fork_words.specs.declared.work.Work.{Work}
 use Rattle.fork_words.specs.declared.work.Work.TheVariants as work
-use Rattle.file_acts.specs.Acts.{Log, ReadsBoth, ReadsNothing, ReadsOnly, ReadsThese, WritesNothing}
+use Rattle.file_acts.specs.Acts.{Log, ReadsNothing, WritesNothing}
+use Rattle.image_acts.specs.Words.{ReadsBothWords, ReadsWord, ReadsWords}
 use Rattle.fork_saves.specs.Changing.{IsForFile, IsForNew, IsForOther}
 
 -- nothing is written in this place
@@ -50,19 +51,19 @@ only_reads (asked.Tell text) = true
 -- a command that writes to no file read just the files that it names; where it only says what it would do, files that it
 -- needs for that
 abbrev pub ReadsWork : Work → Log → Log → Type 0
-ReadsWork (work.Compare asked) = ReadsBoth asked.a.now asked.b.now
-ReadsWork (work.Derez asked) = ReadsOnly asked.file.now
-ReadsWork (work.Texts file) = ReadsOnly file.now
+ReadsWork (work.Compare asked) = ReadsBothWords asked.a.now asked.b.now
+ReadsWork (work.Derez asked) = ReadsWord asked.file.now
+ReadsWork (work.Texts file) = ReadsWord file.now
 ReadsWork other = WritesNothing
 
 -- the same of whatever is asked for
 abbrev pub ReadsAsked : Asked → Log → Log → Type 0
-ReadsAsked (asked.Show showing) = ReadsThese showing.files.items
-ReadsAsked (asked.Report reporting) = ReadsThese reporting.files.items
-ReadsAsked (asked.Salvage salvaging) = ReadsOnly salvaging.file.now
-ReadsAsked (asked.View viewing) = ReadsOnly viewing.file.now
-ReadsAsked (asked.Unpack unpacking file) = ReadsOnly file.now
-ReadsAsked (asked.Page paging) = ReadsThese paging.files.items
+ReadsAsked (asked.Show showing) = ReadsWords showing.files.items
+ReadsAsked (asked.Report reporting) = ReadsWords reporting.files.items
+ReadsAsked (asked.Salvage salvaging) = ReadsWord salvaging.file.now
+ReadsAsked (asked.View viewing) = ReadsWord viewing.file.now
+ReadsAsked (asked.Unpack unpacking file) = ReadsWord file.now
+ReadsAsked (asked.Page paging) = ReadsWords paging.files.items
 ReadsAsked (asked.Change change) = ReadsWork change
 ReadsAsked (asked.Tell text) = ReadsNothing
 

@@ -7,6 +7,7 @@ ghost use Rattle.fork_saves.specs.Saving.{EndsSaved};
 ghost use Rattle.resfork.specs.Running.{ChangesAsked, ReadsAsked, only_reads};
 ghost use Rattle.std.specs.Prelude.{◌≡◌, ◌≤◌, true};
 
+mod images;
 mod lines;
 mod page;
 mod report;

@@ -1,26 +1,28 @@
 //! A page of HTML that shows what files have.
 
 ghost use Rattle.std.specs.Prelude.{◌≡◌, ◌≤◌, IfOk, is_none, true};
-ghost use Rattle.file_acts.specs.Acts.{ReadsNothing, ReadsOnly, ReadsThese};
+ghost use Rattle.file_acts.specs.Acts.{ReadsNothing};
+ghost use Rattle.image_acts.specs.Words.{ReadsWord, ReadsWords};
 
 use crate::several::higher;
 use file_acts::acts::{Acts, print};
 use file_acts::found::{fork_found, table_found};
 use file_acts::host::{Host, OUTPUT};
-use file_acts::input::read;
 use file_acts::message::{CANT_GO_ON, DONE, Problem, finish};
 use fork_bytes::table::Row;
+use fork_disk::Unknown;
 use fork_page::{PageFile, end_page, new_page, push_file};
 use fork_report::{Digests, Form, Report, report_on};
 use fork_saves::save::save_to;
 use fork_words::asked::Paging;
+use image_acts::read;
 use path_text::FileName;
 use std::alloc::Global;
 
 /// Writes a page of these files, and says why some aren't on it. The result is the highest status of them.
 pub fn write_page(host: &Host<'_>, asked: &Paging<'_>, acts: &mut Acts) -> u8
     ensures few { result ≤ CANT_GO_ON }
-    ensures quiet { is_none asked.now.output ≡ true → ReadsThese asked.now.files.items acts.old.events acts.new.events }
+    ensures quiet { is_none asked.now.output ≡ true → ReadsWords asked.now.files.items acts.old.events acts.new.events }
 {
     let output = asked.output.unwrap_or(OUTPUT);
     let mut page = match new_page(host.alloc()) {
@@ -35,7 +37,7 @@ pub fn write_page(host: &Host<'_>, asked: &Paging<'_>, acts: &mut Acts) -> u8
 /// Adds files to a page, and says why some aren't on it. The result is the highest status of them.
 fn add_files(host: &Host<'_>, files: &[&str], page: &mut Vec<u8>, acts: &mut Acts) -> u8
     ensures few { result ≤ CANT_GO_ON }
-    ensures quiet { ReadsThese files.now acts.old.events acts.new.events }
+    ensures quiet { ReadsWords files.now acts.old.events acts.new.events }
 {
     let mut status = DONE;
     for file in files {
@@ -48,9 +50,9 @@ fn add_files(host: &Host<'_>, files: &[&str], page: &mut Vec<u8>, acts: &mut Act
 /// Adds the file of this name to a page.
 fn add_file(host: &Host<'_>, file: &str, page: &mut Vec<u8>, acts: &mut Acts) -> Result<u8, Problem>
     ensures done { IfOk result (λ status. status ≡ DONE) }
-    ensures quiet { ReadsOnly file.now acts.old.events acts.new.events }
+    ensures quiet { ReadsWord file.now acts.old.events acts.new.events }
 {
-    let bytes = read(host, file, acts)?;
+    let bytes = read::<Unknown>(host, file, acts)?;
     let found = fork_found(host.alloc(), &bytes)?;
     let table = table_found(host.alloc(), &found, &bytes)?;
     add_rows(host.alloc(), file, &bytes, table.rows.as_slice(), page)?;

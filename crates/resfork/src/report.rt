@@ -1,12 +1,13 @@
 //! Reports on files: their resources, their faults, and what is known of them.
 
-ghost use Rattle.file_acts.specs.Acts.{ReadsNothing, ReadsOnly, ReadsThese};
+ghost use Rattle.file_acts.specs.Acts.{ReadsNothing};
+ghost use Rattle.image_acts.specs.Words.{ReadsWord, ReadsWords};
 ghost use Rattle.std.specs.Prelude.{◌≡◌, ◌≤◌, if◌then◌else◌, IfOk};
 
+use crate::images::described;
 use crate::several::{higher, note_archive, write_lines};
 use file_acts::acts::{Acts, write_text};
 use file_acts::host::Host;
-use file_acts::input::read;
 use file_acts::message::{CANT_GO_ON, DONE, NO_FORK, Problem, finish};
 use file_acts::parts::list_by_parts;
 use fork_disk::World;
@@ -14,12 +15,13 @@ use fork_report::{
     Bytes, Digests, Form, InsideNote, Refusal, Report, Told, refused_line, report_on,
 };
 use fork_words::asked::Reporting;
+use image_acts::read;
 use std::alloc::AllocError;
 
 /// Reports on each of these files, and says why of some nothing is reported. The result is the highest status of them.
 pub fn report_all<W: World>(host: &Host<'_>, asked: &Reporting<'_>, acts: &mut Acts) -> u8
     ensures few { result ≤ CANT_GO_ON }
-    ensures quiet { ReadsThese asked.now.files.items acts.old.events acts.new.events }
+    ensures quiet { ReadsWords asked.now.files.items acts.old.events acts.new.events }
 {
     let files = asked.files.as_slice();
     let mut status = DONE;
@@ -38,7 +40,7 @@ fn report_one<W: World>(
     acts: &mut Acts,
 ) -> Result<u8, Problem>
     ensures few { IfOk result (λ status. status ≤ NO_FORK) }
-    ensures quiet { ReadsOnly file.now acts.old.events acts.new.events }
+    ensures quiet { ReadsWord file.now acts.old.events acts.new.events }
 {
     match report_file::<W>(host, &asked.report, file, acts) {
         Ok(told) => print_told(host, asked, file, &told, acts),
@@ -59,7 +61,7 @@ fn report_file<W: World>(
     file: &str,
     acts: &mut Acts,
 ) -> Result<Told, Problem>
-    ensures quiet { ReadsOnly file.now acts.old.events acts.new.events }
+    ensures quiet { ReadsWord file.now acts.old.events acts.new.events }
 {
     if let Report::List {
         kinds,
@@ -70,22 +72,25 @@ fn report_file<W: World>(
         return match list_by_parts::<W>(host, file, kinds.as_slice(), acts) {
             Some(Ok(line)) => Ok(Told::whole(line)),
             Some(Err(_)) => Err(Problem::HostFull),
-            None => report_whole(host, report, file, acts),
+            None => report_whole::<W>(host, report, file, acts),
         };
     }
-    report_whole(host, report, file, acts)
+    if let Some(told) = described::<W>(host, report, file, acts)? {
+        return Ok(told);
+    }
+    report_whole::<W>(host, report, file, acts)
 }
 
 /// The same of a file of which all bytes are read.
-fn report_whole(
+fn report_whole<W: World>(
     host: &Host<'_>,
     report: &Report,
     file: &str,
     acts: &mut Acts,
 ) -> Result<Told, Problem>
-    ensures quiet { ReadsOnly file.now acts.old.events acts.new.events }
+    ensures quiet { ReadsWord file.now acts.old.events acts.new.events }
 {
-    let bytes = read(host, file, acts)?;
+    let bytes = read::<W>(host, file, acts)?;
     match report_on(host.alloc(), report, file, &bytes) {
         Ok(told) => Ok(told),
         Err(refusal) => Err(Problem::of_refusal(host.alloc(), refusal, &bytes)),

@@ -1,7 +1,8 @@
 //! Resources as a text, and the fork of a text; and the fork of a folder to which resources were unpacked.
 
 ghost use Rattle.std.specs.Prelude.{◌≡◌, IfOk, true};
-ghost use Rattle.file_acts.specs.Acts.{ReadsOnly, WritesNothing};
+ghost use Rattle.file_acts.specs.Acts.{WritesNothing};
+ghost use Rattle.image_acts.specs.Words.{ReadsWord};
 ghost use Rattle.file_acts.specs.Saved.{SavedAndSaid, ShowsSaved};
 ghost use Rattle.fork_saves.specs.Saving.{EndsSaved};
 ghost use Rattle.fork_saves.specs.Changing.{IsForFile, IsForOther};
@@ -72,7 +73,7 @@ pub fn derez_file(
     acts: &mut Acts,
 ) -> Result<u8, Problem>
     ensures done { IfOk result (λ status. status ≡ DONE) }
-    ensures quiet { ReadsOnly file.now acts.old.events acts.new.events }
+    ensures quiet { ReadsWord file.now acts.old.events acts.new.events }
 {
     use_table(host, file, &Derez(kinds), acts)
 }

@@ -1,23 +1,25 @@
 //! What can be read of a damaged file, listed or written to another.
 
-ghost use Rattle.file_acts.specs.Acts.{ReadsNothing, ReadsOnly};
+ghost use Rattle.file_acts.specs.Acts.{ReadsNothing};
+ghost use Rattle.image_acts.specs.Words.{ReadsWord};
 ghost use Rattle.resfork.specs.Running.{only_lists};
 ghost use Rattle.std.specs.Prelude.{◌≡◌, IfOk, true};
 
 use file_acts::acts::{Acts, write_text};
 use file_acts::host::Host;
-use file_acts::input::read;
 use file_acts::message::{DONE, Problem};
+use fork_disk::Unknown;
 use fork_list::letters::Letters;
 use fork_report::{ContainerDamage, ForkSalvaged, salvage, salvage_data, salvage_list};
 use fork_saves::save::save_to;
 use fork_words::asked::{Salvage, Salvaging};
+use image_acts::read;
 use path_text::FileName;
 
 /// Lists what can be read of a file, or writes it to another. The result is the exit status.
 pub fn salvage_file(host: &Host<'_>, asked: Salvaging<'_>, acts: &mut Acts) -> Result<u8, Problem>
     ensures done { IfOk result (λ status. status ≡ DONE) }
-    ensures quiet { only_lists asked.entry.what ≡ true → ReadsOnly asked.entry.file.now acts.old.events acts.new.events }
+    ensures quiet { only_lists asked.entry.what ≡ true → ReadsWord asked.entry.file.now acts.old.events acts.new.events }
 {
     match salvaged(host, asked, acts) {
         Ok(()) => Ok(DONE),
@@ -27,9 +29,9 @@ pub fn salvage_file(host: &Host<'_>, asked: Salvaging<'_>, acts: &mut Acts) -> R
 
 /// Lists what can be read of a file, or writes it to another.
 fn salvaged(host: &Host<'_>, asked: Salvaging<'_>, acts: &mut Acts) -> Result<(), Problem>
-    ensures quiet { only_lists asked.entry.what ≡ true → ReadsOnly asked.entry.file.now acts.old.events acts.new.events }
+    ensures quiet { only_lists asked.entry.what ≡ true → ReadsWord asked.entry.file.now acts.old.events acts.new.events }
 {
-    let bytes = read(host, asked.file, acts)?;
+    let bytes = read::<Unknown>(host, asked.file, acts)?;
     match asked.what {
         Salvage::List(letters) => write_salvaged(host, asked.file, letters, &bytes, acts),
         Salvage::Fork(output) => save_salvaged(host, asked.file, &bytes, output, acts),

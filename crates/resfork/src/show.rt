@@ -1,13 +1,13 @@
 //! What is shown of files: their lists, and their resources' bytes.
 
-ghost use Rattle.file_acts.specs.Acts.{ReadsOnly, ReadsThese};
+ghost use Rattle.image_acts.specs.Words.{ReadsWord, ReadsWords};
 ghost use Rattle.std.specs.Prelude.{◌≡◌, ◌≤◌, IfOk, is_none, true};
 
+use crate::images::print_images;
 use crate::several::{higher, note_archive, write_lines};
 use file_acts::acts::{Acts, print};
 use file_acts::found::refused_as;
 use file_acts::host::Host;
-use file_acts::input::read;
 use file_acts::message::{CANT_GO_ON, DONE, Problem, finish};
 use file_acts::parts::answer_by_parts;
 use fork_answer::Failure;
@@ -17,12 +17,13 @@ use fork_disk::World;
 use fork_report::archive_inside;
 use fork_saves::save::save_to;
 use fork_words::asked::Showing;
+use image_acts::read;
 use std::io::IsTerminal;
 
 /// Shows something of each of these files, and says why some aren't shown. The result is the highest status of them.
 pub fn show_all<W: World>(host: &Host<'_>, asked: &Showing<'_>, acts: &mut Acts) -> u8
     ensures few { result ≤ CANT_GO_ON }
-    ensures quiet { is_none asked.now.output ≡ true → ReadsThese asked.now.files.items acts.old.events acts.new.events }
+    ensures quiet { is_none asked.now.output ≡ true → ReadsWords asked.now.files.items acts.old.events acts.new.events }
 {
     let files = asked.files.as_slice();
     let mut status = DONE;
@@ -41,7 +42,7 @@ fn show_file<W: World>(
     acts: &mut Acts,
 ) -> Result<u8, Problem>
     ensures done { IfOk result (λ status. status ≡ DONE) }
-    ensures quiet { is_none asked.now.output ≡ true → ReadsOnly file.now acts.old.events acts.new.events }
+    ensures quiet { is_none asked.now.output ≡ true → ReadsWord file.now acts.old.events acts.new.events }
 {
     match show::<W>(host, asked, file, acts) {
         Ok(()) => Ok(DONE),
@@ -56,7 +57,7 @@ fn show<W: World>(
     file: &str,
     acts: &mut Acts,
 ) -> Result<(), Problem>
-    ensures quiet { is_none asked.now.output ≡ true → ReadsOnly file.now acts.old.events acts.new.events }
+    ensures quiet { is_none asked.now.output ≡ true → ReadsWord file.now acts.old.events acts.new.events }
 {
     match asked.output {
         Some(output) => save_answer::<W>(host, &asked.request, file, output, acts),
@@ -74,8 +75,11 @@ fn print_list<W: World>(
     file: &str,
     acts: &mut Acts,
 ) -> Result<(), Problem>
-    ensures quiet { ReadsOnly file.now acts.old.events acts.new.events }
+    ensures quiet { ReadsWord file.now acts.old.events acts.new.events }
 {
+    if print_images::<W>(host, asked, file, acts)? {
+        return Ok(());
+    }
     let answered = answer_file::<W>(host, &asked.request, file, acts)?;
     if answered.text.is_empty() {
         note_inside(host, file, &answered);
@@ -110,7 +114,7 @@ fn print_answer<W: World>(
     file: &str,
     acts: &mut Acts,
 ) -> Result<(), Problem>
-    ensures quiet { ReadsOnly file.now acts.old.events acts.new.events }
+    ensures quiet { ReadsWord file.now acts.old.events acts.new.events }
 {
     let answered = answer_file::<W>(host, request, file, acts)?;
     print(host, &answered.text, acts)
@@ -130,26 +134,26 @@ fn answer_file<W: World>(
     file: &str,
     acts: &mut Acts,
 ) -> Result<Answered, Problem>
-    ensures quiet { ReadsOnly file.now acts.old.events acts.new.events }
+    ensures quiet { ReadsWord file.now acts.old.events acts.new.events }
 {
     let mut text = Vec::new(host.alloc());
     match answer_by_parts::<W, Vec<u8>>(host, request, file, &mut text, acts) {
         Some(Ok(())) => Ok(Answered { text, bytes: None }),
         Some(Err(failure)) => Err(unanswered(host, request, failure, &[])),
-        None => answer_whole(host, request, file, acts),
+        None => answer_whole::<W>(host, request, file, acts),
     }
 }
 
 /// The same of a file of which all bytes are read.
-fn answer_whole(
+fn answer_whole<W: World>(
     host: &Host<'_>,
     request: &Request,
     file: &str,
     acts: &mut Acts,
 ) -> Result<Answered, Problem>
-    ensures quiet { ReadsOnly file.now acts.old.events acts.new.events }
+    ensures quiet { ReadsWord file.now acts.old.events acts.new.events }
 {
-    let bytes = read(host, file, acts)?;
+    let bytes = read::<W>(host, file, acts)?;
     let mut text = Vec::new(host.alloc());
     match answer(host.alloc(), request, &bytes, &mut text) {
         Ok(()) => Ok(Answered {

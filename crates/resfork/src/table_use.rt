@@ -1,6 +1,7 @@
 //! What is done with the table of a file's resource fork.
 
-ghost use Rattle.file_acts.specs.Acts.{ReadsNothing, ReadsOnly};
+ghost use Rattle.file_acts.specs.Acts.{ReadsNothing};
+ghost use Rattle.image_acts.specs.Words.{ReadsWord};
 ghost use Rattle.fork_list.specs.Listing.{absent_kind};
 ghost use Rattle.resfork.specs.Faults.{IsToldOfKinds};
 ghost use Rattle.std.specs.Prelude.{◌≡◌, IfOk};
@@ -8,10 +9,11 @@ ghost use Rattle.std.specs.Prelude.{◌≡◌, IfOk};
 use file_acts::acts::Acts;
 use file_acts::found::{fork_found, table_found};
 use file_acts::host::Host;
-use file_acts::input::read;
 use file_acts::message::{DONE, Problem};
 use fork_bytes::table::{Row, Table};
+use fork_disk::Unknown;
 use fork_list::absent_kind;
+use image_acts::read;
 use mac_base::resource::ResType;
 
 /// Something that is done with the table of a file's resource fork.
@@ -39,9 +41,9 @@ pub fn use_table<U: TableUse>(
     acts: &mut Acts,
 ) -> Result<u8, Problem>
     ensures done { IfOk result (λ status. status ≡ DONE) }
-    ensures quiet { U.only_reads table_use.now → ReadsOnly file.now acts.old.events acts.new.events }
+    ensures quiet { U.only_reads table_use.now → ReadsWord file.now acts.old.events acts.new.events }
 {
-    let bytes = read(host, file, acts)?;
+    let bytes = read::<Unknown>(host, file, acts)?;
     use_table_in(host, &bytes, table_use, acts)
 }
 

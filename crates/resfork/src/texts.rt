@@ -1,13 +1,14 @@
 //! The texts of a file as lines, and lines that take their place.
 
 ghost use Rattle.std.specs.Prelude.{◌≡◌, IfOk, true};
-ghost use Rattle.file_acts.specs.Acts.{ReadsNothing, ReadsOnly, WritesNothing};
+ghost use Rattle.file_acts.specs.Acts.{ReadsNothing, WritesNothing};
+ghost use Rattle.image_acts.specs.Words.{ReadsWord};
 ghost use Rattle.file_acts.specs.Saved.{ShowsSaved};
 ghost use Rattle.fork_saves.specs.Saving.{EndsSaved};
 ghost use Rattle.fork_saves.specs.Changing.{IsForFile};
 
 use crate::table_use::{TableUse, use_table};
-use crate::work::{Failed, of_file};
+use crate::work::{Failed, change, of_file};
 use file_acts::acts::{Acts, write_text};
 use file_acts::found::{fork_found, table_found};
 use file_acts::host::Host;
@@ -16,10 +17,10 @@ use file_acts::message::{DONE, Problem};
 use fork_bytes::table::{Row, Table};
 use fork_change::row::ResourceId;
 use fork_change::{Choice, Collision, second_of};
+use fork_disk::Unknown;
 use fork_edit::edit::Edit;
 use fork_list::KindText;
 use fork_list::letters::Letters;
-use fork_saves::change::change_file;
 use fork_texts::{TextType, rows_of, text_types, texts_of};
 use fork_words::texts::PuttingTexts;
 use fork_words::work::Target;
@@ -76,7 +77,7 @@ fn check_once(host: &Host<'_>, rows: &[Row<'_>]) -> Result<(), Problem> {
 /// Writes the texts of a file as lines.
 pub fn list_texts(host: &Host<'_>, file: &str, acts: &mut Acts) -> Result<u8, Problem>
     ensures done { IfOk result (λ status. status ≡ DONE) }
-    ensures quiet { ReadsOnly file.now acts.old.events acts.new.events }
+    ensures quiet { ReadsWord file.now acts.old.events acts.new.events }
 {
     use_table(host, file, &Texts(file), acts)
 }
@@ -128,7 +129,7 @@ fn put_rows(
         chosen: &[Choice::All],
         on_collision: Collision::Replace,
     };
-    change_file(host, target, rows.as_slice(), edit, acts)
+    change(host, target, rows.as_slice(), edit, acts)
 }
 
 /// Puts lines in the place of the texts of a file.
@@ -143,10 +144,8 @@ pub fn put_texts<'a>(
     ensures seen { IsForFile asked.entry.target → ShowsSaved acts.old.events acts.new.events }
 {
     let lines = of_file(asked.lines, read(host, asked.lines, acts))?;
-    let bytes = of_file(asked.target.file, read(host, asked.target.file, acts))?;
+    let file = asked.target.file;
+    let bytes = of_file(file, image_acts::read::<Unknown>(host, file, acts))?;
     let changed = rows_put(host, asked, &lines, &bytes)?;
-    of_file(
-        asked.target.file,
-        put_rows(host, &asked.target, &changed, acts),
-    )
+    of_file(file, put_rows(host, &asked.target, &changed, acts))
 }

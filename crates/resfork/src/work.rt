@@ -1,11 +1,12 @@
 //! What the commands do that change files, and those that compare them.
 
 ghost use Rattle.std.specs.Prelude.{◌≡◌, ◌≢◌, ◌≤◌, IfErr, IfOk, Ok, Err, option_map, true};
-ghost use Rattle.file_acts.specs.Acts.{ReadsBoth, ReadsNothing, ReadsOnly, WritesNothing};
+ghost use Rattle.file_acts.specs.Acts.{ReadsNothing, WritesNothing};
+ghost use Rattle.image_acts.specs.Words.{ReadsBothWords, ReadsWord};
 ghost use Rattle.resfork.specs.Faults.{file_at_fault};
 ghost use Rattle.file_acts.specs.Saved.{ShowsSaved};
 ghost use Rattle.fork_saves.specs.Saving.{EndsSaved};
-ghost use Rattle.fork_saves.specs.Changing.{IsForFile};
+ghost use Rattle.fork_saves.specs.Changing.{IsForFile, IsForNew};
 ghost use Rattle.resfork.specs.Running.{ChangesFiles, IsForPlace, ReadsWork, is_dry_place, writes_nothing};
 
 use crate::rez::{Like, derez_file, pack_folder, rez_file};
@@ -13,10 +14,11 @@ use crate::texts::{list_texts, put_texts};
 use file_acts::acts::{Acts, look_at, write_text};
 use file_acts::found::{fork_found, table_found};
 use file_acts::host::Host;
-use file_acts::input::read;
+use file_acts::input;
 use file_acts::message::{CANT_GO_ON, DONE, NOT_FOUND, Problem, finish};
 use fork_bytes::table::{Row, Table};
 use fork_change::{Choice, Differences, Refusal};
+use fork_disk::Unknown;
 use fork_edit::difference::text_of;
 use fork_edit::edit::{Edit, second_of, unmet};
 use fork_edit::file::NotWritten;
@@ -24,7 +26,10 @@ use fork_report::{Form, difference_line};
 use fork_saves::change::{change_file, create_file};
 use fork_saves::convert::convert;
 use fork_words::INPUT;
-use fork_words::work::{Comparison, Copying, Packing, Putting, Removing, Setting, Target, Work};
+use fork_words::work::{
+    Comparison, Conversion, Copying, Packing, Putting, Removing, Setting, Target, Work,
+};
+use image_acts::{check_outside, read};
 use mac_base::error::HostFull;
 use std::alloc::Global;
 
@@ -78,7 +83,7 @@ fn try_work<'a>(host: &Host<'_>, work: Work<'a>, acts: &mut Acts) -> Result<u8, 
         ),
         Work::Rez(asked) => rez_file(host, asked, acts),
         Work::Pack(asked) => pack(host, asked, acts),
-        Work::Convert(asked) => of_file(asked.target.file, convert(host, &asked, acts)),
+        Work::Convert(asked) => of_file(asked.target.file, convert_file(host, &asked, acts)),
         Work::Texts(file) => of_file(file, list_texts(host, file, acts)),
         Work::PutTexts(asked) => put_texts(host, asked, acts),
     }
@@ -92,7 +97,7 @@ fn put<'a>(host: &Host<'_>, asked: Putting<'a>, acts: &mut Acts) -> Result<u8, F
     ensures seen { IsForFile asked.entry.target → ShowsSaved acts.old.events acts.new.events }
 {
     let input = asked.input.unwrap_or(INPUT);
-    let bytes = of_file(input, read(host, input, acts))?;
+    let bytes = of_file(input, input::read(host, input, acts))?;
     of_file(asked.target.file, put_bytes(host, asked, &bytes, acts))
 }
 
@@ -126,7 +131,7 @@ fn remove<'a>(host: &Host<'_>, asked: &Removing<'a>, acts: &mut Acts) -> Result<
     let edit = Edit::Remove(asked.whats.as_slice());
     of_file(
         asked.target.file,
-        change_file(host, &asked.target, &[], edit, acts),
+        change(host, &asked.target, &[], edit, acts),
     )
 }
 
@@ -142,7 +147,7 @@ fn set<'a>(host: &Host<'_>, asked: Setting<'a>, acts: &mut Acts) -> Result<u8, F
         what: asked.what,
         change: asked.change,
     };
-    of_file(target.file, change_file(host, &target, &[], edit, acts))
+    of_file(target.file, change(host, &target, &[], edit, acts))
 }
 
 /// Copies resources of a file to another.
@@ -153,7 +158,7 @@ fn copy_from<'a>(host: &Host<'_>, asked: &Copying<'a>, acts: &mut Acts) -> Resul
     ensures seen { IsForFile asked.now.target → ShowsSaved acts.old.events acts.new.events }
 {
     let from = asked.from;
-    let bytes = of_file(from, read(host, from, acts))?;
+    let bytes = of_file(from, read::<Unknown>(host, from, acts))?;
     let found = of_file(from, fork_found(host.alloc(), &bytes))?;
     let table = of_file(from, table_found(host.alloc(), &found, &bytes))?;
     copy_rows(host, asked, table.rows.as_slice(), acts)
@@ -179,7 +184,7 @@ pub fn copy_rows<'a>(
     };
     of_file(
         asked.target.file,
-        change_file(host, &asked.target, rows, edit, acts),
+        change(host, &asked.target, rows, edit, acts),
     )
 }
 
@@ -196,13 +201,24 @@ fn can_copy(host: &Host<'_>, chosen: &[Choice], rows: &[Row<'_>]) -> Result<(), 
     }
 }
 
+/// Writes a file in another container.
+fn convert_file(host: &Host<'_>, asked: &Conversion<'_>, acts: &mut Acts) -> Result<u8, Problem>
+    ensures done { IfOk result (λ status. status ≡ DONE) }
+    ensures dry { asked.now.target.is_dry ≡ true → WritesNothing acts.old.events acts.new.events }
+    ensures saved { IsForNew asked.now → IfOk result (λ _. EndsSaved acts.new.events) }
+    ensures seen { IsForNew asked.now → ShowsSaved acts.old.events acts.new.events }
+{
+    let bytes = read::<Unknown>(host, asked.target.file, acts)?;
+    convert(host, asked, &bytes, acts)
+}
+
 /// Writes what differs between two files. The result says whether something does.
 fn compare<'a>(host: &Host<'_>, asked: Comparison<'a>, acts: &mut Acts) -> Result<u8, Failed<'a>>
     ensures few { IfOk result (λ status. status ≤ NOT_FOUND) }
-    ensures quiet { ReadsBoth asked.entry.a.now asked.entry.b.now acts.old.events acts.new.events }
+    ensures quiet { ReadsBothWords asked.entry.a.now asked.entry.b.now acts.old.events acts.new.events }
 {
     let a = asked.a;
-    let bytes = of_file(a, read(host, a, acts))?;
+    let bytes = of_file(a, read::<Unknown>(host, a, acts))?;
     let found = of_file(a, fork_found(host.alloc(), &bytes))?;
     let table = of_file(a, table_found(host.alloc(), &found, &bytes))?;
     of_file(asked.b, compare_with(host, asked, &table, acts))
@@ -216,9 +232,9 @@ fn compare_with(
     acts: &mut Acts,
 ) -> Result<u8, Problem>
     ensures few { IfOk result (λ status. status ≤ NOT_FOUND) }
-    ensures quiet { ReadsOnly asked.entry.b.now acts.old.events acts.new.events }
+    ensures quiet { ReadsWord asked.entry.b.now acts.old.events acts.new.events }
 {
-    let bytes = read(host, asked.b, acts)?;
+    let bytes = read::<Unknown>(host, asked.b, acts)?;
     let found = fork_found(host.alloc(), &bytes)?;
     let new = table_found(host.alloc(), &found, &bytes)?;
     write_differences(host, asked, old, &new, acts)
@@ -269,7 +285,7 @@ fn pack<'a>(host: &Host<'_>, asked: Packing<'a>, acts: &mut Acts) -> Result<u8, 
     let Some(name) = asked.like else {
         return pack_folder(host, asked, None, acts);
     };
-    let bytes = of_file(name, read(host, name, acts))?;
+    let bytes = of_file(name, read::<Unknown>(host, name, acts))?;
     let like = Like {
         name,
         bytes: &bytes,
@@ -288,6 +304,23 @@ pub fn file_at_fault<'a>(like: Option<&'a str>, source: &'a str, problem: &Probl
     }
 }
 
+/// Changes the resources of a file, unless it is in a disk image.
+pub fn change(
+    host: &Host<'_>,
+    target: &Target<'_>,
+    from: &[Row<'_>],
+    edit: Edit<'_>,
+    acts: &mut Acts,
+) -> Result<u8, Problem>
+    ensures done { IfOk result (λ status. status ≡ DONE) }
+    ensures dry { target.now.is_dry ≡ true → WritesNothing acts.old.events acts.new.events }
+    ensures saved { IsForFile target.now → IfOk result (λ _. EndsSaved acts.new.events) }
+    ensures seen { IsForFile target.now → ShowsSaved acts.old.events acts.new.events }
+{
+    check_outside::<Unknown>(host, target.file, acts)?;
+    change_file(host, target, from, edit, acts)
+}
+
 /// Changes a file, or makes it where it isn't there and may be made.
 fn put_into(
     host: &Host<'_>,
@@ -302,11 +335,12 @@ fn put_into(
     ensures seen { IsForFile target.now → ShowsSaved acts.old.events acts.new.events }
 {
     if target.file == INPUT {
-        return change_file(host, target, &[], edit, acts);
+        return change(host, target, &[], edit, acts);
     }
+    check_outside::<Unknown>(host, target.file, acts)?;
     match look_at(host, target.file, acts) {
         Ok(None) if creates => create_file(host, target, &[], edit, acts),
         Ok(None) => Err(Problem::NoFile),
-        _ => change_file(host, target, &[], edit, acts),
+        _ => change(host, target, &[], edit, acts),
     }
 }

@@ -1,3 +1,5 @@
 pub mod Firsts
 pub mod Listed
 pub mod Upwards
+pub mod Texts
+pub mod Places

@@ -1,27 +1,27 @@
 -- The things of the records so far, and of one more.
-use Rattle.std.proofs.Common.{◌≡◌, ℕ, ◌+◌, ◌<◌, List, [], ◌∷◌, ◌++◌, length, take, get_or, map, Option, None, Some, sym, ap, ◌∙◌}
-use Rattle.std.specs.List.{filter_map, cons_option}
-use Rattle.std.proofs.lemmas.List.{append-nil, map-append, take_more}
-use Rattle.std.proofs.lemmas.List.Elements.{filter_map-append}
+use Rattle.std.proofs.Common.{◌≡◌, ℕ, ◌+◌, ◌<◌, cond, Bool, true, false, List, [], ◌∷◌, ◌++◌, length, take, get_or, sym, ap, ◌∙◌}
+use Rattle.std.specs.Prelude.{filter, is_some}
+use Rattle.std.proofs.lemmas.List.{append-nil}
+use Rattle.std.proofs.lemmas.List.Elements.{filter_more}
 use Rattle.hfs_volume.specs.declared.entry.Entry.{Entry}
-use Rattle.volume_names.specs.declared.things.Thing.{Thing}
-use Rattle.volume_names.specs.Things.{ThingRead, thing_read, thing_of}
+use Rattle.volume_names.specs.Things.{path_of_thing}
 
-module _ (entries : List Entry) (i : ℕ) (d : Entry) (things : List Thing) (at : i < length entries) (so_far : map thing_read things ≡ filter_map (thing_of entries) (take i entries)) where
-  one_more : filter_map (thing_of entries) (take (i + 1) entries) ≡ filter_map (thing_of entries) (take i entries) ++ cons_option (thing_of entries (get_or entries i d)) []
-  one_more = ap (λ (xs : List Entry). filter_map (thing_of entries) xs) (take_more entries i d at) ∙ filter_map-append (thing_of entries) (take i entries) (get_or entries i d ∷ [])
+-- the first records that have a path, of so many
+abbrev pub listed : List Entry → List Entry → List Entry
+listed entries some = filter (λ entry. is_some (path_of_thing entries entry)) some
+
+module _ (entries things : List Entry) (i : ℕ) (d : Entry) (at : i < length entries) (so_far : things ≡ listed entries (take i entries)) (is : Bool)
+    (says : is ≡ is_some (path_of_thing entries (get_or entries i d))) where
+  one_more : listed entries (take (i + 1) entries) ≡ things ++ cond is (get_or entries i d ∷ []) []
+  one_more =
+      filter_more (λ entry. is_some (path_of_thing entries entry)) entries i d at
+      ∙ ap (λ (b : Bool). listed entries (take i entries) ++ cond b (get_or entries i d ∷ []) []) (sym says)
+      ∙ ap (λ (xs : List Entry). xs ++ cond is (get_or entries i d ∷ []) []) (sym so_far)
 
   -- it is a thing
-  pub a_thing : (thing : Thing) → Some (thing_read thing) ≡ thing_of entries (get_or entries i d) → map thing_read (things ++ thing ∷ []) ≡ filter_map (thing_of entries) (take (i + 1) entries)
-  a_thing thing is =
-      map-append thing_read things (thing ∷ [])
-      ∙ ap (λ (xs : List ThingRead). xs ++ thing_read thing ∷ []) so_far
-      ∙ ap (λ (o : Option ThingRead). filter_map (thing_of entries) (take i entries) ++ cons_option o []) is
-      ∙ sym one_more
+  pub a_thing : is ≡ true → things ++ get_or entries i d ∷ [] ≡ listed entries (take (i + 1) entries)
+  a_thing holds = ap (λ (b : Bool). things ++ cond b (get_or entries i d ∷ []) []) (sym holds) ∙ sym one_more
 
   -- or none
-  pub no_thing : None ≡ thing_of entries (get_or entries i d) → map thing_read things ≡ filter_map (thing_of entries) (take (i + 1) entries)
-  no_thing is =
-      so_far ∙ sym (append-nil (filter_map (thing_of entries) (take i entries)))
-      ∙ ap (λ (o : Option ThingRead). filter_map (thing_of entries) (take i entries) ++ cons_option o []) is
-      ∙ sym one_more
+  pub no_thing : is ≡ false → things ≡ listed entries (take (i + 1) entries)
+  no_thing fails = sym (append-nil things) ∙ ap (λ (b : Bool). things ++ cond b (get_or entries i d ∷ []) []) (sym fails) ∙ sym one_more

@@ -38,3 +38,21 @@ module _ (entries : List Entry) where
   pub too_deep : (names : List Name) (left id : ℕ) → left ≡ 0 → before_all names (path_within left entries id) ≡ None
   unfolding path_within
   too_deep names left id none = rw none refl
+
+  -- The same of the path itself.
+  pub root_path : (left more id : ℕ) → left ≡ suc more → id ≡ 2 → path_within left entries id ≡ Some []
+  unfolding path_within
+  root_path left more id some root = rw some (rw root refl)
+
+  pub missing_path : (left more id : ℕ) → left ≡ suc more → (id == 2) ≡ false → find (is_folder_with id) entries ≡ None → path_within left entries id ≡ None
+  unfolding path_within
+  missing_path left more id some other none = rw some (rw (other, none) refl)
+
+  pub path_up : (left more id : ℕ) (folder : Entry) → left ≡ suc more → (id == 2) ≡ false → find (is_folder_with id) entries ≡ Some folder
+      → path_within left entries id ≡ with_name folder.name (path_within more entries folder.parent)
+  unfolding path_within
+  path_up left more id folder some other is = rw some (rw (other, is) refl)
+
+  pub deep_path : (left id : ℕ) → left ≡ 0 → path_within left entries id ≡ None
+  unfolding path_within
+  deep_path left id none = rw none refl

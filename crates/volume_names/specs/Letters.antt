@@ -16,10 +16,6 @@ is_same_byte Letters first second = slice_index WEIGHTS first == slice_index WEI
 abbrev pub is_same_text : Rule → List ℕ → List ℕ → Bool
 is_same_text rule first second = pointwise (is_same_byte rule) first second
 
--- whether names are
-abbrev pub is_same_name : Rule → Name → Name → Bool
-is_same_name rule first second = is_same_text rule (name_bytes first) (name_bytes second)
-
--- whether paths are
-abbrev pub is_same_path : Rule → List Name → List Name → Bool
-is_same_path rule first second = pointwise (is_same_name rule) first second
+-- whether a path of names has these texts
+abbrev pub is_same_path : Rule → List Name → List (List ℕ) → Bool
+is_same_path rule path texts = pointwise (λ name text. is_same_text rule (name_bytes name) text) path texts

@@ -1,10 +1,13 @@
 -- Paths of folders.
-use Rattle.std.specs.Prelude.{◌≡◌, ℕ, zero, suc, ◌==◌, ◌&&◌, if◌then◌else◌, Bool, List, [], ◌∷◌, ◌++◌, find, Option, None, Some}
+use Rattle.std.specs.Prelude.{◌≡◌, ℕ, zero, suc, ◌==◌, ◌&&◌, if◌then◌else◌, Bool, false, List, [], ◌∷◌, ◌++◌, find, Option, None, Some}
+use Rattle.std.specs.Global.{Vec}
 use Rattle.std.specs.Ordering.{nat_cmp}
 use Rattle.std.specs.BTreeMap.{BTreeMap, get}
 use Rattle.hfs_volume.specs.declared.entry.Entry.{Entry}
 use Rattle.hfs_volume.specs.declared.name.Name.{Name}
 use Rattle.hfs_volume.specs.Entries.{is_folder, id_of}
+use Rattle.volume_names.specs.Letters.{is_same_path}
+use Rattle.volume_names.specs.declared.letters.Rule.{Rule}
 
 -- whether a record is of the folder with an id
 abbrev pub is_folder_with : ℕ → Entry → Bool
@@ -33,3 +36,12 @@ path_within (suc more) entries id = if id == 2 then Some [] else path_by (find (
 -- the path of a folder, of 255 names at most
 abbrev pub path_of : List Entry → ℕ → Option (List Name)
 path_of entries id = path_within 256 entries id
+
+-- the bytes of a name as they are kept
+abbrev pub items_of : Vec ℕ → List ℕ
+items_of name = name.items
+
+-- whether there is a path, and its names have these texts by a rule
+abbrev pub has_texts : Rule → List (List ℕ) → Option (List Name) → Bool
+has_texts rule texts None = false
+has_texts rule texts (Some path) = is_same_path rule path texts

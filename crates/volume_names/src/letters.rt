@@ -1,9 +1,7 @@
 //! Names as the File Manager compares them.
 
 ghost use Rattle.std.specs.Prelude.{◌≡◌};
-ghost use Rattle.volume_names.specs.Letters.{is_same_byte, is_same_text, is_same_name, is_same_path};
-
-use hfs_volume::name::Name;
+ghost use Rattle.volume_names.specs.Letters.{is_same_byte, is_same_text};
 
 /// The weight of each byte of MacRoman in RelString's order (Inside Macintosh: Text, chapter 5), by which a volume's names
 /// are sorted: case doesn't count, diacritical marks do, and the blanks are the same.
@@ -54,28 +52,6 @@ pub fn is_same_text(rule: Rule, first: &[u8], second: &[u8]) -> bool
     }
     for (index, byte) in first.iter().enumerate() {
         if !is_same_byte(rule, *byte, second[index]) {
-            return false;
-        }
-    }
-    true
-}
-
-/// Whether two names are the same by a rule.
-pub fn is_same_name(rule: Rule, first: &Name, second: &Name) -> bool
-    ensures { result ≡ is_same_name rule first.now second.now }
-{
-    is_same_text(rule, first.as_bytes(), second.as_bytes())
-}
-
-/// Whether two paths are the same by a rule.
-pub fn is_same_path(rule: Rule, first: &[Name], second: &[Name]) -> bool
-    ensures { result ≡ is_same_path rule first.now second.now }
-{
-    if first.len() != second.len() {
-        return false;
-    }
-    for (index, name) in first.iter().enumerate() {
-        if !is_same_name(rule, name, &second[index]) {
             return false;
         }
     }

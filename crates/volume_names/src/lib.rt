@@ -2,11 +2,12 @@
 #![tactic(auto)]
 
 mod find;
-mod folders;
+pub mod folders;
 pub mod letters;
 #[cfg(test)]
 mod tests;
-pub mod things;
+mod things;
 
 pub use find::find_thing;
-pub use things::list_things;
+pub use folders::folders_by_id;
+pub use things::{list_things, path_of_thing};

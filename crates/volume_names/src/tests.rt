@@ -1,7 +1,8 @@
 //! Things of records that are made by hand.
 
 use crate::find::find_thing;
-use crate::things::list_things;
+use crate::folders::folders_by_id;
+use crate::things::{list_things, path_of_thing};
 use hfs_volume::entry::Entry;
 use hfs_volume::name::Name;
 use std::test::Fail;
@@ -36,28 +37,34 @@ fn records() -> [Entry; 9] {
 
 #[test]
 fn lists_things_with_paths(rt: HostRuntime) -> Result<(), Fail> {
-    let things = list_things(rt.alloc(), &records())?;
+    let alloc = rt.alloc();
+    let folders = folders_by_id(alloc, &records())?;
+    let things = list_things(alloc, &records())?;
     assert_eq!(rt; things.len(), 4);
-    assert_eq!(rt;
-        things[0].path.as_slice(),
-        [Name::from_bytes(b"Game")].as_slice()
-    );
-    assert_eq!(rt; things[1].entry.id(), 17);
-    assert_eq!(rt; things[3].path.len(), 3);
-    assert_eq!(rt; things[3].path[1], Name::from_bytes(b"Sea\xCA"));
+    assert_eq!(rt; things[1].id(), 17);
+    let path = path_of_thing(alloc, &folders, &things[3])?.ok_or("no path")?;
+    let names = [
+        Name::from_bytes(b"Game"),
+        Name::from_bytes(b"Sea\xCA"),
+        Name::from_bytes(b"b\x8Fte"),
+    ];
+    assert_eq!(rt; path.as_slice(), names.as_slice());
     Ok(())
 }
 
 #[test]
 fn finds_things_by_paths(rt: HostRuntime) -> Result<(), Fail> {
+    let folders = folders_by_id(rt.alloc(), &records())?;
     let things = list_things(rt.alloc(), &records())?;
-    let game = Name::from_bytes(b"gAME");
-    let sea = Name::from_bytes(b"sea ");
-    let byte = Name::from_bytes(b"B\x8Fte");
-    let plain = Name::from_bytes(b"Bete");
-    assert_eq!(rt; find_thing(&things, &[game, sea, byte]), Some(3));
-    assert_eq!(rt; find_thing(&things, &[game, sea]), Some(2));
-    assert_eq!(rt; find_thing(&things, &[game, sea, plain]), None);
-    assert_eq!(rt; find_thing(&things, &[sea]), None);
+    let mut path = Vec::new(rt.alloc());
+    for (name, place) in [("gAME", Some(0)), ("sea ", Some(2)), ("dARK", None)] {
+        path.push(Vec::from_slice(rt.alloc(), name.as_bytes())?)?;
+        assert_eq!(rt; find_thing(&folders, &things, &path), place);
+    }
+    path.pop();
+    path.push(Vec::from_slice(rt.alloc(), b"B\x8Fte")?)?;
+    assert_eq!(rt; find_thing(&folders, &things, &path), Some(3));
+    path.remove(0);
+    assert_eq!(rt; find_thing(&folders, &things, &path), None);
     Ok(())
 }

@@ -1,7 +1,7 @@
 use Rattle.std.proofs.Common.{List, ℕ, rules, subst, sym}
 use Rattle.std.specs.Borrow.{Bor}
 use Rattle.std.specs.List.{All}
-use Rattle.file_acts.specs.Acts.{MayRead}
+use Rattle.image_acts.specs.Words.{MayReadWord}
 use Rattle.resfork.proofs.show.show_all.Goals as goal
 
 pub loop-file-init : goal.loop-file-init
@@ -11,6 +11,6 @@ pub loop-file-preserved : goal.loop-file-preserved
 loop-file-preserved g c = let h = c.loop-file.invariant in record {
   few = search rules;
   quiet = λ none paths may before. c.show_file-shown.ensures.quiet none paths
-      (subst (λ (files : List (Bor (List ℕ))). All (λ file. MayRead paths file.now) files) (sym c.as_slice-files.ensures.value) may c.loop-file.file-index _ c.loop-file-test.true)
+      (subst (λ (files : List (Bor (List ℕ))). All (λ file. MayReadWord paths file.now) files) (sym c.as_slice-files.ensures.value) may c.loop-file.file-index _ c.loop-file-test.true)
       (h.quiet none paths may before);
 }
