@@ -1,3 +1,4 @@
 pub mod Letters
 pub mod Paths
 pub mod Things
+pub mod Ups

@@ -11,10 +11,10 @@ use std::alloc::{AllocError, Global};
 use std::collections::BTreeMap;
 
 /// The id of the root.
-const ROOT: u32 = 2;
+pub(crate) const ROOT: u32 = 2;
 
 /// The most folders that a path goes through, with the root.
-const MOST_FOLDERS: usize = 256;
+pub(crate) const MOST_FOLDERS: usize = 256;
 
 /// The first folder of a volume with each id.
 pub type Folders = BTreeMap<u32, Entry>;

@@ -7,6 +7,7 @@ pub mod letters;
 #[cfg(test)]
 mod tests;
 mod things;
+mod ups;
 
 pub use find::find_thing;
 pub use folders::folders_by_id;

@@ -4,8 +4,10 @@ ghost use Rattle.std.specs.Prelude.{◌≡◌, List, IfOk, is_some, option_map};
 ghost use Rattle.hfs_volume.specs.declared.entry.Entry.{Entry};
 ghost use Rattle.volume_names.specs.Paths.{HasFolders};
 ghost use Rattle.volume_names.specs.Things.{path_of_thing, things_of};
+ghost use Rattle.volume_names.specs.Ups.{AreUps, HasPlaces};
 
-use crate::folders::{Folders, folders_by_id, path_of};
+use crate::folders::{Folders, path_of};
+use crate::ups::{Places, Up, places_by_id, reaches_root, up_to, ups_of};
 use hfs_volume::entry::Entry;
 use hfs_volume::name::Name;
 use std::alloc::{AllocError, Global};
@@ -31,11 +33,11 @@ pub fn path_of_thing(
 }
 
 /// Whether a record is of a folder or a file that has a path.
-fn is_thing(alloc: Global, folders: &Folders, entry: &Entry) -> Result<bool, AllocError>
-    ensures { (entries : List Entry) → HasFolders folders.now entries →
-        IfOk result (λ is. is ≡ is_some (path_of_thing entries entry.now)) }
+fn is_thing(places: &Places, ups: &[Up], entry: &Entry) -> bool
+    ensures { (entries : List Entry) → HasPlaces entries entries places.now → AreUps entries entries ups.now →
+        result ≡ is_some (path_of_thing entries entry.now) }
 {
-    Ok(path_of_thing(alloc, folders, entry)?.is_some())
+    (entry.is_folder() || entry.is_file()) && reaches_root(ups, up_to(places, entry.parent))
 }
 
 /// The folders and files of a volume with these records that have a path, in the order of the catalog. The only error is that
@@ -43,10 +45,11 @@ fn is_thing(alloc: Global, folders: &Folders, entry: &Entry) -> Result<bool, All
 pub fn list_things(alloc: Global, entries: &[Entry]) -> Result<Vec<Entry>, AllocError>
     ensures { IfOk result (λ things. things.items ≡ things_of entries.now) }
 {
-    let folders = folders_by_id(alloc, entries)?;
+    let places = places_by_id(alloc, entries)?;
+    let ups = ups_of(alloc, &places, entries)?;
     let mut things = Vec::new(alloc);
     for entry in entries {
-        if is_thing(alloc, &folders, entry)? {
+        if is_thing(&places, &ups, entry) {
             things.push(*entry)?;
         }
     }
