@@ -2,14 +2,13 @@
 use Rattle.std.specs.Prelude.{Bool, true, false, is_none, ℕ, List}
 use Rattle.fork_words.specs.declared.asked.Asked.{Asked}
 use Rattle.fork_words.specs.declared.asked.Asked.TheVariants as asked
-use Rattle.fork_words.specs.declared.asked.Salvage.{Salvage}
-use Rattle.fork_words.specs.declared.asked.Salvage.TheVariants as salvage
 use Rattle.fork_words.specs.declared.work.Place.{Place}
 use Rattle.fork_words.specs.declared.work.Place.TheVariants.{New, Into}
 use Rattle.fork_words.specs.declared.work.Work.{Work}
 use Rattle.fork_words.specs.declared.work.Work.TheVariants as work
 use Rattle.file_acts.specs.Acts.{Log, ReadsNothing, WritesNothing}
 use Rattle.image_acts.specs.Words.{ReadsBothWords, ReadsWord, ReadsWords}
+use Rattle.fork_shows.specs.Salvages.{only_lists}
 use Rattle.fork_saves.specs.Changing.{IsForFile, IsForNew, IsForOther}
 
 -- nothing is written in this place
@@ -30,11 +29,6 @@ writes_nothing (work.Pack asked) = is_dry_place asked.place
 writes_nothing (work.Convert asked) = asked.target.is_dry
 writes_nothing (work.Texts file) = true
 writes_nothing (work.PutTexts asked) = asked.target.is_dry
-
--- what is salvaged is only listed
-abbrev pub only_lists : Salvage → Bool
-only_lists (salvage.List letters) = true
-only_lists other = false
 
 -- nothing is written but to the standard output: no other file is named to be written, or it is only said what would be
 -- done

@@ -7,34 +7,26 @@ ghost use Rattle.fork_saves.specs.Saving.{EndsSaved};
 ghost use Rattle.resfork.specs.Running.{ChangesAsked, ReadsAsked, only_reads};
 ghost use Rattle.std.specs.Prelude.{◌≡◌, ◌≤◌, true};
 
-mod images;
 mod lines;
-mod page;
-mod report;
 mod rez;
-mod salvage;
-mod several;
-mod show;
-mod table_use;
 mod texts;
 mod unlisted;
-mod view;
 mod work;
 
 use file_acts::acts::{Acts, write_out};
 use file_acts::host::Host;
 use file_acts::message::{BAD_WORDS, CANT_GO_ON, DONE, finish, tell_bad_words};
 use fork_disk::{Unknown, World};
+use fork_shows::page::write_page;
+use fork_shows::report::report_all;
+use fork_shows::salvage::salvage_file;
+use fork_shows::show::show_all;
+use fork_shows::table_use::use_table;
 use fork_words::asked::{Asked, Command, NotAsked, asked_by};
 use lines::with_words_in_lines;
-use page::write_page;
-use report::report_all;
-use salvage::salvage_file;
-use show::show_all;
 use std::io::ErrorKind;
 use std::process::ExitCode;
 use std::{env, io};
-use table_use::use_table;
 use work::run_work;
 
 fn main(rt: HostRuntime) -> ExitCode {

@@ -8,9 +8,9 @@ ghost use Rattle.fork_saves.specs.Saving.{EndsSaved};
 ghost use Rattle.fork_saves.specs.Changing.{IsForFile, IsForOther};
 ghost use Rattle.resfork.specs.Running.{IsForPlace, is_dry_place};
 
-use crate::table_use::{TableUse, check_kinds, use_table};
 use crate::unlisted::with_unlisted;
-use crate::work::{Failed, copy_rows, file_at_fault, of_file};
+use crate::work::{copy_rows, file_at_fault};
+use fork_shows::failed::{Failed, of_file};
 use file_acts::acts::{Acts, look_at, print};
 use file_acts::host::{Host, OUTPUT};
 use file_acts::input::{read, read_front, read_other, unread};
@@ -24,7 +24,7 @@ use fork_folder::manifest::{Packing as Manifest, manifest_of};
 use fork_folder::rows::{Entry, packed};
 use fork_list::Quoted;
 use fork_list::letters::Letters;
-use fork_rez::{derez, rez};
+use fork_rez::rez;
 use fork_saves::change::{say, write_output, written_file};
 use fork_words::work::{Copying, Packing, Place, Rezzing, Target};
 use mac_base::resource::ResType;
@@ -41,42 +41,6 @@ const MOST_BYTES: usize = MAX_BYTES as usize;
 
 /// The bytes of files, by their paths.
 type Files = BTreeMap<String, Vec<u8>>;
-
-/// Resources of these types, or all where there are none, are written as a text.
-#[derive(Clone, Copy)]
-struct Derez<'a>(&'a [ResType]);
-
-impl TableUse for Derez<'_> {
-    ghost use Rattle.std.specs.Prelude.{⊤};
-
-    ghost only_reads = { λ _. ⊤ };
-
-    fn apply(
-        &self,
-        host: &Host<'_>,
-        _bytes: &[u8],
-        table: &Table<'_>,
-        acts: &mut Acts,
-    ) -> Result<u8, Problem> {
-        check_kinds(self.0, table.rows.as_slice())?;
-        let text = derez(host.alloc(), self.0, table)?;
-        print(host, &text, acts)?;
-        Ok(DONE)
-    }
-}
-
-/// Writes resources of a file as a text.
-pub fn derez_file(
-    host: &Host<'_>,
-    file: &str,
-    kinds: &[ResType],
-    acts: &mut Acts,
-) -> Result<u8, Problem>
-    ensures done { IfOk result (λ status. status ≡ DONE) }
-    ensures quiet { ReadsWord file.now acts.old.events acts.new.events }
-{
-    use_table(host, file, &Derez(kinds), acts)
-}
 
 /// Writes a fork of a text, or puts its resources into a file.
 pub fn rez_file<'a>(host: &Host<'_>, asked: Rezzing<'a>, acts: &mut Acts) -> Result<u8, Failed<'a>>

@@ -7,8 +7,9 @@ ghost use Rattle.file_acts.specs.Saved.{ShowsSaved};
 ghost use Rattle.fork_saves.specs.Saving.{EndsSaved};
 ghost use Rattle.fork_saves.specs.Changing.{IsForFile};
 
-use crate::table_use::{TableUse, use_table};
-use crate::work::{Failed, change, of_file};
+use crate::work::change;
+use fork_shows::failed::{Failed, of_file};
+use fork_shows::texts::check_once;
 use file_acts::acts::{Acts, write_text};
 use file_acts::found::{fork_found, table_found};
 use file_acts::host::Host;
@@ -27,60 +28,6 @@ use fork_words::work::Target;
 use mac_base::resource::Resource;
 use path_text::FileName;
 use res_types::value::Text;
-
-/// The texts of the file of this name are written as lines.
-#[derive(Clone, Copy)]
-struct Texts<'a>(&'a str);
-
-impl TableUse for Texts<'_> {
-    ghost use Rattle.std.specs.Prelude.{⊤};
-
-    ghost only_reads = { λ _. ⊤ };
-
-    fn apply(
-        &self,
-        host: &Host<'_>,
-        _bytes: &[u8],
-        table: &Table<'_>,
-        acts: &mut Acts,
-    ) -> Result<u8, Problem> {
-        let rows = table.rows.as_slice();
-        check_once(host, rows)?;
-        let types = text_types(host.alloc())?;
-        let listed = texts_of(host.alloc(), &types, rows)?;
-        write_text(host, &listed.lines, acts)?;
-        tell_odd(host, self.0, &listed.odd);
-        Ok(DONE)
-    }
-}
-
-/// Says which resources have bytes that aren't of their type.
-fn tell_odd(host: &Host<'_>, file: &str, odd: &[ResourceId]) {
-    let file = FileName(file);
-    for what in odd {
-        let kind = KindText::new(Letters::Roman, what.kind);
-        let id = what.id;
-        let _ = eprintln!(host.rt;
-            "{file}: {kind} {id}: its bytes aren't of this type, and its texts aren't shown"
-        );
-    }
-}
-
-/// Whether no two rows have one type and id.
-fn check_once(host: &Host<'_>, rows: &[Row<'_>]) -> Result<(), Problem> {
-    match second_of(host.alloc(), &[Choice::All], rows)? {
-        Some(_) => Err(Problem::Twice),
-        None => Ok(()),
-    }
-}
-
-/// Writes the texts of a file as lines.
-pub fn list_texts(host: &Host<'_>, file: &str, acts: &mut Acts) -> Result<u8, Problem>
-    ensures done { IfOk result (λ status. status ≡ DONE) }
-    ensures quiet { ReadsWord file.now acts.old.events acts.new.events }
-{
-    use_table(host, file, &Texts(file), acts)
-}
 
 /// The rows of a file that change where lines take the place of its texts.
 fn rows_put<'a>(

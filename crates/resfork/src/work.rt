@@ -9,8 +9,8 @@ ghost use Rattle.fork_saves.specs.Saving.{EndsSaved};
 ghost use Rattle.fork_saves.specs.Changing.{IsForFile, IsForNew};
 ghost use Rattle.resfork.specs.Running.{ChangesFiles, IsForPlace, ReadsWork, is_dry_place, writes_nothing};
 
-use crate::rez::{Like, derez_file, pack_folder, rez_file};
-use crate::texts::{list_texts, put_texts};
+use crate::rez::{Like, pack_folder, rez_file};
+use crate::texts::put_texts;
 use file_acts::acts::{Acts, look_at, write_text};
 use file_acts::found::{fork_found, table_found};
 use file_acts::host::Host;
@@ -25,6 +25,10 @@ use fork_edit::file::NotWritten;
 use fork_report::{Form, difference_line};
 use fork_saves::change::{change_file, create_file};
 use fork_saves::convert::convert;
+use fork_shows::compare::compare;
+use fork_shows::derez::derez_file;
+use fork_shows::failed::{Failed, of_file};
+use fork_shows::texts::list_texts;
 use fork_words::INPUT;
 use fork_words::work::{
     Comparison, Conversion, Copying, Packing, Putting, Removing, Setting, Target, Work,
@@ -32,13 +36,6 @@ use fork_words::work::{
 use image_acts::{check_outside, read};
 use mac_base::error::HostFull;
 use std::alloc::Global;
-
-/// A file, and why it is in the way.
-#[derive(Drop)]
-pub struct Failed<'a> {
-    pub file: &'a str,
-    pub problem: Problem,
-}
 
 /// Does what is asked for. The result is the exit status.
 pub fn run_work(host: &Host<'_>, work: Work<'_>, acts: &mut Acts) -> u8
@@ -50,17 +47,6 @@ pub fn run_work(host: &Host<'_>, work: Work<'_>, acts: &mut Acts) -> u8
     match try_work(host, work, acts) {
         Ok(status) => status,
         Err(Failed { file, problem }) => finish(host, file, Err(problem)),
-    }
-}
-
-/// What was done with a file, or that it is in the way.
-pub fn of_file<'a, T>(file: &'a str, done: Result<T, Problem>) -> Result<T, Failed<'a>>
-    ensures value { IfOk result (λ value. done ≡ Ok value) }
-    ensures problem { IfErr result (λ failed. done ≡ Err failed.problem) }
-{
-    match done {
-        Ok(value) => Ok(value),
-        Err(problem) => Err(Failed { file, problem }),
     }
 }
 
@@ -210,69 +196,6 @@ fn convert_file(host: &Host<'_>, asked: &Conversion<'_>, acts: &mut Acts) -> Res
 {
     let bytes = read::<Unknown>(host, asked.target.file, acts)?;
     convert(host, asked, &bytes, acts)
-}
-
-/// Writes what differs between two files. The result says whether something does.
-fn compare<'a>(host: &Host<'_>, asked: Comparison<'a>, acts: &mut Acts) -> Result<u8, Failed<'a>>
-    ensures few { IfOk result (λ status. status ≤ NOT_FOUND) }
-    ensures quiet { ReadsBothWords asked.entry.a.now asked.entry.b.now acts.old.events acts.new.events }
-{
-    let a = asked.a;
-    let bytes = of_file(a, read::<Unknown>(host, a, acts))?;
-    let found = of_file(a, fork_found(host.alloc(), &bytes))?;
-    let table = of_file(a, table_found(host.alloc(), &found, &bytes))?;
-    of_file(asked.b, compare_with(host, asked, &table, acts))
-}
-
-/// Writes what differs between the first file's table and the second file. The result says whether something does.
-fn compare_with(
-    host: &Host<'_>,
-    asked: Comparison<'_>,
-    old: &Table<'_>,
-    acts: &mut Acts,
-) -> Result<u8, Problem>
-    ensures few { IfOk result (λ status. status ≤ NOT_FOUND) }
-    ensures quiet { ReadsWord asked.entry.b.now acts.old.events acts.new.events }
-{
-    let bytes = read::<Unknown>(host, asked.b, acts)?;
-    let found = fork_found(host.alloc(), &bytes)?;
-    let new = table_found(host.alloc(), &found, &bytes)?;
-    write_differences(host, asked, old, &new, acts)
-}
-
-/// Writes what differs between two tables. The result says whether something does.
-fn write_differences(
-    host: &Host<'_>,
-    asked: Comparison<'_>,
-    old: &Table<'_>,
-    new: &Table<'_>,
-    acts: &mut Acts,
-) -> Result<u8, Problem>
-    ensures same { IfOk result (λ status. old.now ≡ new.now → status ≡ DONE) }
-    ensures differs { IfOk result (λ status. old.now ≢ new.now → status ≡ NOT_FOUND) }
-    ensures few { IfOk result (λ status. status ≤ NOT_FOUND) }
-    ensures quiet { ReadsNothing acts.old.events acts.new.events }
-{
-    let differences = fork_change::compare(host.alloc(), old, new)?;
-    let text = difference_text(host.alloc(), asked, &differences)?;
-    write_text(host, &text, acts)?;
-    Ok(if differences.is_empty() {
-        DONE
-    } else {
-        NOT_FOUND
-    })
-}
-
-/// What differs between two files, in the form that is asked for.
-fn difference_text(
-    alloc: Global,
-    asked: Comparison<'_>,
-    differences: &Differences<'_, '_>,
-) -> Result<String, HostFull> {
-    match asked.form {
-        Form::Text => text_of(alloc, differences),
-        Form::Json => Ok(difference_line(alloc, asked.a, asked.b, differences)?),
-    }
 }
 
 /// Writes a fork of the files in a folder, alone or in a file like another one; or puts its resources into a file.
