@@ -34,14 +34,14 @@ fn print_listing(
     ensures quiet { ReadsNothing acts.old.events acts.new.events }
 {
     let mut listing = listing;
-    let mut files = asked.files.as_slice();
-    for _ in 0..listing.len() {
+    let several = asked.files.len() > 1;
+    for at in 0..listing.len() {
         let lines = listing.next_lines(host)?;
         if lines.is_empty() {
             return Ok(());
         }
-        write_lines(host, asked.titles, files, file, lines.as_bytes(), acts)?;
-        files = &[];
+        let is_titled = several && at == 0;
+        write_lines(host, asked.titles, is_titled, file, lines.as_bytes(), acts)?;
     }
     Ok(())
 }

@@ -126,8 +126,15 @@ fn write_told(
     if is_json(&asked.report) {
         write_text(host, &told.text, acts)
     } else {
-        let files = asked.files.as_slice();
-        write_lines(host, asked.titles, files, file, told.text.as_bytes(), acts)
+        let several = asked.files.len() > 1;
+        write_lines(
+            host,
+            asked.titles,
+            several,
+            file,
+            told.text.as_bytes(),
+            acts,
+        )
     }
 }
 

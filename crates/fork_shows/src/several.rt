@@ -18,12 +18,11 @@ pub fn higher(one: u8, other: u8) -> u8
     if one < other { other } else { one }
 }
 
-/// Writes lines about one of these files, if there are some: after its name where there are several files, or each with
-/// its name.
+/// Writes lines about a file, if there are some: after its name where that is one of several, or each with its name.
 pub fn write_lines(
     host: &Host<'_>,
     titles: Titles,
-    files: &[&str],
+    is_one_of_several: bool,
     file: &str,
     lines: &[u8],
     acts: &mut Acts,
@@ -35,7 +34,7 @@ pub fn write_lines(
     }
     match titles {
         Titles::BeforeLines => write_each(host, file, lines, acts),
-        Titles::BeforeFiles if files.len() > 1 => {
+        Titles::BeforeFiles if is_one_of_several => {
             write_title(host, file, acts)?;
             print(host, lines, acts)
         }

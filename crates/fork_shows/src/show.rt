@@ -87,8 +87,8 @@ fn print_list<W: World>(
     if answered.text.is_empty() {
         note_inside(host, file, &answered);
     }
-    let files = asked.files.as_slice();
-    write_lines(host, asked.titles, files, file, &answered.text, acts)
+    let several = asked.files.len() > 1;
+    write_lines(host, asked.titles, several, file, &answered.text, acts)
 }
 
 /// Notes the archive in a file without resources whose bytes were all read, if there is one.
