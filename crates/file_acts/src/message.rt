@@ -152,6 +152,9 @@ pub enum Problem {
     /// A file in a disk image would be changed.
     #[error("it is in a disk image, and files there are only read: resfork convert takes it out")]
     InImage,
+    /// There are more files and folders below a folder than are looked at.
+    #[error("there are more than 10000000 files and folders below it: name folders in it")]
+    ManyFiles,
     /// The host has no memory.
     #[error("the host has no memory")]
     HostFull,
