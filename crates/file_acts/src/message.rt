@@ -155,6 +155,9 @@ pub enum Problem {
     /// There are more files and folders below a folder than are looked at.
     #[error("there are more than 10000000 files and folders below it: name folders in it")]
     ManyFiles,
+    /// A file would be written in a disk image.
+    #[error("it would be in a disk image, and images are only read: name a file outside of it")]
+    IntoImage,
     /// The host has no memory.
     #[error("the host has no memory")]
     HostFull,
@@ -267,6 +270,7 @@ impl Problem {
             | Problem::NoDataFile
             | Problem::OneFile
             | Problem::InImage
+            | Problem::IntoImage
             | Problem::View(NotShown::NoPicture(_))
             | Problem::View(NotShown::NoText)
             | Problem::View(NotShown::Compressed(_))

@@ -7,6 +7,8 @@ pub mod derez;
 pub mod failed;
 pub mod find;
 mod images;
+mod output;
+pub mod outside;
 pub mod page;
 pub mod report;
 pub mod salvage;

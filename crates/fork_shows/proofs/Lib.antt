@@ -1,0 +1,4 @@
+mod Files
+pub mod Reads
+mod Statuses
+mod Written
