@@ -41,8 +41,8 @@ fn is_inside(bytes: &[u8]) -> bool
     ensures { result ≡ is_inside_kind (kind_of bytes.now) }
 {
     match kind_of(bytes) {
-        FileKind::Container(Container::AppleSingle | Container::MacBinary(_))
-        | FileKind::BinHex => true,
+        FileKind::Container(Container::AppleSingle | Container::MacBinary(_)) | FileKind::BinHex =>
+            true,
         FileKind::Container(Container::Raw | Container::AppleDouble)
         | FileKind::Archive(_)
         | FileKind::Unknown => false,
@@ -464,7 +464,11 @@ fn say_converted(
     ensures seen { (bytes : List ℕ) → JustSaved bytes acts.old.events → ShowsSaved acts.old.events acts.new.events }
 {
     if !new.lost.is_empty() {
-        tell(host, asked.target.file, lost_line(host.alloc(), &asked.target, &new.lost));
+        tell(
+            host,
+            asked.target.file,
+            lost_line(host.alloc(), &asked.target, &new.lost),
+        );
     }
     let said = written_line(host.alloc(), &asked.target, new.file.len())?;
     say(host, &asked.target, &said, acts)

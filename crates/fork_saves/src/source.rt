@@ -64,7 +64,8 @@ impl Source {
         ensures { result.now ≡ source_bytes self.now }
     {
         match self {
-            Source::Read(bytes) | Source::Held(_, bytes) => bytes.as_slice(),
+            Source::Read(bytes) => bytes.as_slice(),
+            Source::Held(_, bytes) => bytes.as_slice(),
         }
     }
 }

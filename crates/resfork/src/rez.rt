@@ -16,7 +16,6 @@ ghost use Rattle.resfork.specs.Running.{IsForPlace, is_dry_place};
 
 use crate::unlisted::with_unlisted;
 use crate::work::{copy_rows, file_at_fault};
-use fork_shows::failed::{Failed, of_file};
 use file_acts::acts::{Acts, look_at, print};
 use file_acts::host::{Host, OUTPUT};
 use file_acts::input::{read, read_front, read_other, unread};
@@ -33,6 +32,7 @@ use fork_list::letters::Letters;
 use fork_rez::rez;
 use fork_rez::table::Made;
 use fork_saves::change::{say, write_output, written_file};
+use fork_shows::failed::{Failed, of_file};
 use fork_words::work::{Copying, Packing, Place, Rezzing, Target};
 use mac_base::resource::ResType;
 use mac_files::kind_of;

@@ -47,11 +47,7 @@ fn rows_put<'a>(
 }
 
 /// The rows of these that change where these lines take the place of their texts.
-fn put_lines(
-    alloc: Global,
-    rows: &[Row<'_>],
-    lines: &[u8],
-) -> Result<Vec<Resource<Text>>, Problem>
+fn put_lines(alloc: Global, rows: &[Row<'_>], lines: &[u8]) -> Result<Vec<Resource<Text>>, Problem>
     ensures put { IfOk result (λ changed. ArePut lines.now rows.now (Ok changed.items)) }
     ensures none { IfErr result (λ why. ArePut lines.now rows.now (Err why)) }
 {
