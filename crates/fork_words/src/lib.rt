@@ -5,11 +5,8 @@ pub mod asked;
 mod command;
 mod ending;
 pub mod fault;
-<<<<<<< HEAD
 pub mod find;
-=======
 mod outputs;
->>>>>>> c93f06deaae744be7a1544240a1bc29da5fb6057
 pub mod size;
 pub mod texts;
 pub mod work;

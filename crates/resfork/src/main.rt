@@ -17,12 +17,9 @@ use file_acts::acts::{Acts, write_out};
 use file_acts::host::Host;
 use file_acts::message::{BAD_WORDS, CANT_GO_ON, DONE, finish, tell_bad_words};
 use fork_disk::{Unknown, World};
-<<<<<<< HEAD
 use fork_shows::find::find_all;
-=======
 use fork_shows::failed::Failed;
 use fork_shows::outside::check_outputs;
->>>>>>> c93f06deaae744be7a1544240a1bc29da5fb6057
 use fork_shows::page::write_page;
 use fork_shows::report::report_all;
 use fork_shows::salvage::salvage_file;
