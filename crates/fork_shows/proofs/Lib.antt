@@ -1,4 +1,4 @@
 mod Files
-pub mod Reads
+pub mod Quiet
 mod Statuses
 mod Written

@@ -14,7 +14,7 @@ use fork_words::asked::Asked;
 use image_acts::check_outside;
 
 /// Refuses a path in a disk image, also in one that isn't read: `Problem::IntoImage`.
-#[tactic(auto, using(crate::proofs::Reads::writes_nothing))]
+#[tactic(auto, using(crate::proofs::Quiet::writes_nothing))]
 fn check_path(host: &Host<'_>, path: &str, acts: &mut Acts) -> Result<(), Problem>
     ensures quiet { WritesNothing acts.old.events acts.new.events }
     ensures seen { ShowsSaved acts.old.events acts.new.events }
