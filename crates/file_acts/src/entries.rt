@@ -7,7 +7,7 @@ ghost use Rattle.file_acts.specs.declared.acts.Act.TheVariants as act;
 
 use crate::acts::{Acts, note_listed};
 use crate::host::Host;
-use crate::input::{NotRead, unread};
+use crate::input::NotRead;
 use crate::message::Problem;
 use std::alloc::AllocError;
 use std::collections::BTreeMap;
@@ -39,15 +39,12 @@ fn entry_of(found: &FileType) -> Option<Entry> {
     }
 }
 
-/// That there are too many entries.
-fn check_room(entries: &Entries) -> io::Result<()> {
-    if entries.len() < MOST_ENTRIES {
-        return Ok(());
-    }
-    Err(io::Error::new(
+/// That there are more files and folders than are looked at.
+pub fn too_many() -> io::Error {
+    io::Error::new(
         ErrorKind::InvalidInput,
-        "there are more than 1000000 files and folders: name folders in it",
-    ))
+        "there are too many files and folders below it: name folders in it",
+    )
 }
 
 /// Adds the files and folders that are in a folder, by their paths.
@@ -56,7 +53,9 @@ fn add_entries(host: &Host<'_>, folder: &str, entries: &mut Entries) -> io::Resu
     for found in fs::read_dir(host.rt, folder)? {
         let found = found?;
         if let Some(entry) = entry_of(&found.file_type()?) {
-            check_room(entries)?;
+            if entries.len() >= MOST_ENTRIES {
+                return Err(too_many());
+            }
             let path = String::from_str(alloc, found.path().as_str())?;
             entries.insert(path, entry).map_err(AllocError::from)?;
         }
@@ -65,8 +64,8 @@ fn add_entries(host: &Host<'_>, folder: &str, entries: &mut Entries) -> io::Resu
 }
 
 /// Adds the files and folders that are in a folder, by their paths, hidden ones too. Links aren't followed: they are left
-/// out, and so are devices and pipes. `Problem::Unread` names the folder where it can't be listed, or where more than a
-/// million files and folders would be known; `HostFull` comes without memory for that name.
+/// out, and so are devices and pipes. `Problem::Read` comes where the folder can't be listed, and where more than a million
+/// files and folders would be known.
 pub fn list_entries(
     host: &Host<'_>,
     folder: &str,
@@ -81,6 +80,6 @@ pub fn list_entries(
     note_listed(acts, folder);
     match listed {
         Ok(()) => Ok(()),
-        Err(error) => Err(unread(host.alloc(), folder, NotRead::Failed(error))),
+        Err(error) => Err(Problem::Read(NotRead::Failed(error))),
     }
 }

@@ -152,9 +152,6 @@ pub enum Problem {
     /// A file in a disk image would be changed.
     #[error("it is in a disk image, and files there are only read: resfork convert takes it out")]
     InImage,
-    /// There are more files and folders below a folder than are looked at.
-    #[error("there are more than 10000000 files and folders below it: name folders in it")]
-    ManyFiles,
     /// A file would be written in a disk image.
     #[error("it would be in a disk image, and images are only read: name a file outside of it")]
     IntoImage,

@@ -5,9 +5,10 @@ ghost use Rattle.file_acts.specs.Acts.{WritesNothing};
 
 use crate::several::{higher, write_lines};
 use file_acts::acts::{Acts, look_at};
-use file_acts::entries::{Entries, Entry, list_entries};
+use file_acts::entries::{Entries, Entry, list_entries, too_many};
 use file_acts::found::{fork_found, table_found};
 use file_acts::host::Host;
+use file_acts::input::NotRead;
 use file_acts::message::{CANT_GO_ON, DONE, NOT_FOUND, Problem, finish};
 use fork_answer::NoFork;
 use fork_disk::Unknown;
@@ -155,7 +156,8 @@ fn find_in_folder(
         let found = look_below(host, sought, path.as_str(), entry, &mut entries, acts);
         search = search.after(host, path.as_str(), found);
     }
-    search.after(host, folder, Err(Problem::ManyFiles))
+    let why = NotRead::Failed(too_many());
+    search.after(host, folder, Err(Problem::Read(why)))
 }
 
 /// Whether a word names a folder. `-` is the standard input.
