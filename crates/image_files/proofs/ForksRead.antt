@@ -1,5 +1,5 @@
 -- Forks that are read.
-use Rattle.std.proofs.Common.{◌≡◌, ℕ, ◌+◌, ◌<◌, ◌≤◌, List, length, take, drop, None, Some, Result, Ok, refl, sym, ap, ◌∙◌, subst, arith}
+use Rattle.std.proofs.Common.{◌≡◌, ℕ, List, length, take, Some, Result, Ok, refl, sym, ap, ◌∙◌, subst}
 use Rattle.std.proofs.Math.Seq.{take-length}
 use Rattle.std.specs.List.{AllByRecursion}
 use Rattle.disk_ranges.specs.declared.read.Range.{Range}
@@ -18,11 +18,7 @@ use Rattle.mfs_volume.specs.declared.volume.MfsVolume.{MfsVolume}
 use Rattle.mfs_volume.specs.Volume as mfs
 use Rattle.image_files.specs.declared.refusal.FileRefusal.{FileRefusal}
 use Rattle.image_files.specs.declared.refusal.FileRefusal.TheVariants.{Fork, Chain}
-use Rattle.hfs_tree.specs.Reads.{cause_of}
-use Rattle.hfs_tree.specs.declared.fault.ReadFault.{ReadFault}
-use Rattle.hfs_tree.specs.declared.fault.ReadFault.TheVariants as faults
-use Rattle.image_files.specs.Forks.{AreRanges, StopsFor, hfs_said, mfs_said, cause_of as file_cause}
-use Rattle.image_files.specs.Refusals.{of_read}
+use Rattle.image_files.specs.Forks.{AreRanges, StopsFor, hfs_said, mfs_said}
 
 -- the ranges of a fork without a fault
 pub hfs_ranges : (volume : Volume) (entry : Entry) (which : Which) (ranges : List Range) → hfs.HasFork (hfs_read volume) entry which ranges → AreRanges volume.size (hfs_said volume entry which) ranges

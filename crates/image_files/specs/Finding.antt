@@ -1,7 +1,6 @@
 -- Which volume, folder or file a path names.
 use Rattle.std.specs.Prelude.{◌≡◌, ⊤, ◌<◌, ◌≤◌, ℕ, ◌+◌, ◌-◌, ◌*◌, ◌==◌, ◌&&◌, nat_lt, if◌then◌else◌, Bool, true, false, fold, is_some, List, [], ◌∷◌, length, map, take, position, Option, None, Some, Result, Ok, Err}
 use Rattle.std.specs.BTreeMap.{BTreeMap}
-use Rattle.std.specs.Global.{Vec}
 use Rattle.std.specs.List.{list_all}
 use Rattle.hfs_volume.specs.declared.entry.Entry.{Entry}
 use Rattle.hfs_volume.specs.Names.{name_bytes as hfs_bytes}
@@ -95,10 +94,14 @@ abbrev pub number_of : List ℕ → Option ℕ
 number_of text =
     if nat_lt 0 (length text) && nat_lt (length text) 6 && list_all is_digit text then Some (fold with_digit 0 text) else None
 
+-- the number of a partition that a name is, after `#`
+abbrev pub part_named : List ℕ → Option ℕ
+part_named [] = None
+part_named (first ∷ digits) = if first == 35 then number_of digits else None
+
 -- the first volume of a partition of this number
-abbrev pub volume_numbered : List PlacedVolume → Option ℕ → Option ℕ
-volume_numbered volumes None = None
-volume_numbered volumes (Some number) = position (λ placed. placed.part == number) volumes
+abbrev pub volume_numbered : List PlacedVolume → ℕ → Option ℕ
+volume_numbered volumes number = position (λ placed. placed.part == number) volumes
 
 -- the first volume that has a name by a rule
 abbrev pub volume_by : Rule → List PlacedVolume → List ℕ → Option ℕ
@@ -107,11 +110,13 @@ volume_by rule volumes name = position (λ placed. has_name rule name placed.fou
 abbrev pub volume_called : List PlacedVolume → List ℕ → Option ℕ
 volume_called volumes name = place_or (volume_by Bytes volumes name) (volume_by Letters volumes name)
 
--- the volume that a name is of: `#` and the number of a partition; else the name of a volume
+-- the volume that a name is of: the number of a partition, or else the name of a volume
+abbrev pub volume_by_part : List PlacedVolume → List ℕ → Option ℕ → Option ℕ
+volume_by_part volumes name None = volume_called volumes name
+volume_by_part volumes name (Some number) = volume_numbered volumes number
+
 abbrev pub volume_named : List PlacedVolume → List ℕ → Option ℕ
-volume_named volumes [] = volume_called volumes []
-volume_named volumes (first ∷ digits) =
-    if (first == 35) && is_some (number_of digits) then volume_numbered volumes (number_of digits) else volume_called volumes (first ∷ digits)
+volume_named volumes name = volume_by_part volumes name (part_named name)
 
 -- what names lead to after the one that is a volume's
 abbrev pub FindsNamed : Contents → Option ℕ → List (List ℕ) → Result Found NotFound → Type 0

@@ -1,5 +1,5 @@
 -- What a volume says of a folder or a file.
-use Rattle.std.specs.Prelude.{ℕ, ◌+◌, ◌%◌, ◌==◌, if◌then◌else◌, List, take, drop, slice_index}
+use Rattle.std.specs.Prelude.{ℕ, ◌%◌, ◌==◌, if◌then◌else◌, slice_index}
 use Rattle.byteorder.specs.Endian.{big_from}
 use Rattle.fork_disk.specs.Disk.{bytes_at}
 use Rattle.hfs_volume.specs.declared.entry.Entry.{Entry}

@@ -2,7 +2,7 @@
 
 ghost use Rattle.std.specs.Prelude.{◌≡◌, ◌+◌, ◌<◌, ◌^◌, [], None, length, map, position, IfOk};
 ghost use Rattle.volume_names.specs.Paths.{items_of};
-ghost use Rattle.image_files.specs.Finding.{AreFolders, Finds, FindsBelow, FindsIn, FindsNames, IsMissing, file_named, found_at, is_called, number_of, thing_named, volume_by, volume_named};
+ghost use Rattle.image_files.specs.Finding.{AreFolders, Finds, FindsBelow, FindsIn, FindsNames, IsMissing, file_named, found_at, is_called, is_digit, number_of, part_named, thing_named, volume_by, volume_named, volume_numbered};
 ghost use Rattle.image_files.specs.FilesRead.{volume_at};
 
 use crate::contents::{Contents, Place};
@@ -164,6 +164,13 @@ fn find_in(
     }
 }
 
+/// Whether a byte is a digit.
+fn is_digit(byte: u8) -> bool
+    ensures { result ≡ is_digit byte }
+{
+    47 < byte && byte < 58
+}
+
 /// The number that the digits of a text are, if it has one to five and nothing else.
 fn number_of(text: &[u8]) -> Option<u32>
     ensures { result ≡ number_of text.now }
@@ -173,14 +180,22 @@ fn number_of(text: &[u8]) -> Option<u32>
     }
     let mut number: u32 = 0;
     for byte in text {
-        if !byte.is_ascii_digit() {
+        if !is_digit(*byte) {
             return None;
         }
-        number = number
-            .saturating_mul(10)
-            .saturating_add((*byte - b'0') as u32);
+        number = 10 * number + (*byte - 48) as u32;
     }
     Some(number)
+}
+
+/// The number of a partition that a name is, if it is `#` and a number.
+fn part_of(name: &[u8]) -> Option<u32>
+    ensures { result ≡ part_named name.now }
+{
+    match name {
+        [b'#', digits @ ..] => number_of(digits),
+        _ => None,
+    }
 }
 
 impl Contents {
@@ -194,17 +209,21 @@ impl Contents {
         })
     }
 
+    /// The first volume of a partition of this number.
+    fn volume_numbered(&self, number: u32) -> Option<usize>
+        ensures { result ≡ volume_numbered self.now.volumes.items number }
+    {
+        self.volumes
+            .iter()
+            .position(|placed| placed.part as u32 == number)
+    }
+
     /// The volume that a name is of: `#` and the number of a partition, or the name of a volume.
     fn volume_of(&self, name: &[u8]) -> Option<usize>
         ensures { result ≡ volume_named self.now.volumes.items name.now }
     {
-        if let [b'#', digits @ ..] = name {
-            if let Some(number) = number_of(digits) {
-                return self
-                    .volumes
-                    .iter()
-                    .position(|placed| placed.part as u32 == number);
-            }
+        if let Some(number) = part_of(name) {
+            return self.volume_numbered(number);
         }
         match self.volume_by(Rule::Bytes, name) {
             Some(volume) => Some(volume),

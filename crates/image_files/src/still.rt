@@ -20,6 +20,7 @@ pub trait StillDisk: ForkDisk + Drop {
 pub struct StillFile<W: World> {
     file: FileDisk<W>,
     refused: u64,
+    ghost first: { file.number ≡ 0 },
     ghost still: { IsHonestIn W.World file → seen_in W.World file ≡ W.held 0 [] },
 }
 

@@ -1,8 +1,7 @@
-use Rattle.std.proofs.Common.{◌≡◌, ℕ, ◌≤◌, List, length, sym, ap, ◌∙◌, refl, subst, arith}
+use Rattle.std.proofs.Common.{◌≡◌, ℕ, length, ◌∙◌, refl, subst, arith}
 use Rattle.std.specs.List.{AllByRecursion}
 use Rattle.std.proofs.lemmas.Result.{err_from_is_err_and}
 use Rattle.disk_ranges.specs.Ranges.{HasRanges, IsInDisk, bytes_of, total}
-use Rattle.image_files.specs.Forks.{AreRanges, fork_of}
 use Rattle.image_files.specs.Sizes.{size_of}
 use Rattle.image_files.proofs.ForksRead.{fork_read, length_within}
 use Rattle.image_files.proofs.fork.fork_of.Goals as goal

@@ -1,4 +1,4 @@
-use Rattle.std.proofs.Common.{length, sym, ◌∙◌}
+use Rattle.std.proofs.Common.{sym, ◌∙◌}
 use Rattle.disk_ranges.specs.Ranges.{bytes_of}
 use Rattle.disk_ranges.proofs.Whole.{length_is}
 use Rattle.image_files.proofs.read.read_mfs_files.Goals as goal

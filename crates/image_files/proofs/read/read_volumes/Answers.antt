@@ -1,8 +1,6 @@
-use Rattle.std.proofs.Common.{rules, ◌≡◌, ◌≢◌, ℕ, List, [], ◌∷◌, ◌++◌, length, sym, subst, ◌∙◌, ap}
-use Rattle.std.proofs.lemmas.Bool.{eqb-false}
+use Rattle.std.proofs.Common.{rules, List, subst}
 use Rattle.std.specs.List.{remove}
 use Rattle.disk_image.specs.declared.place.Placed.{Placed}
-use Rattle.image_files.specs.declared.volume.PlacedVolume.{PlacedVolume}
 use Rattle.image_files.proofs.Reading.{Reading, goes_on, on_ok, taken}
 use Rattle.image_files.proofs.read.read_volumes.Goals as goal
 
