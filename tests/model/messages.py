@@ -187,6 +187,7 @@ ROWS = {
         "too long": "is longer than the limit of {count} bytes; --limit SIZE reads more",
         "no file": "there is no such file; --create makes a new one",
         "no memory": "the host has no memory",
+        "many files": "there are too many files and folders below it: name folders in it",
         "no output": "the output can't be written: {why}",
         "no difference": "it is changed, but what changed can't be shown: {why}",
         "more than a fork": "it is there, and is more than a resource fork, which would be lost: name another file, or --force replaces it",

@@ -5,6 +5,7 @@
 pub mod compare;
 pub mod derez;
 pub mod failed;
+pub mod find;
 mod images;
 mod output;
 pub mod outside;

@@ -44,6 +44,7 @@ new_output (asked.View viewing) = viewing.output
 new_output (asked.Unpack unpacking file) = Some unpacking.folder
 new_output (asked.Page paging) = paging.output
 new_output (asked.Change change) = work_output change
+new_output (asked.Find finding) = None
 new_output (asked.Tell text) = None
 
 -- the data fork's file that a conversion names

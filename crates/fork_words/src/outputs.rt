@@ -54,7 +54,7 @@ impl<'a> Asked<'a> {
             Asked::Salvage(asked) => salvage_output(asked.what),
             Asked::Unpack { unpacking, .. } => Some(unpacking.folder),
             Asked::Change(work) => work_output(work),
-            Asked::Report(_) | Asked::Tell(_) => None,
+            Asked::Report(_) | Asked::Find(_) | Asked::Tell(_) => None,
         }
     }
 

@@ -39,6 +39,7 @@ only_reads (asked.Salvage salvaging) = only_lists salvaging.what
 only_reads (asked.View viewing) = is_none viewing.output
 only_reads (asked.Unpack unpacking file) = false
 only_reads (asked.Page paging) = is_none paging.output
+only_reads (asked.Find finding) = true
 only_reads (asked.Change change) = writes_nothing change
 only_reads (asked.Tell text) = true
 
@@ -58,6 +59,7 @@ ReadsAsked (asked.Salvage salvaging) = ReadsWord salvaging.file.now
 ReadsAsked (asked.View viewing) = ReadsWord viewing.file.now
 ReadsAsked (asked.Unpack unpacking file) = ReadsWord file.now
 ReadsAsked (asked.Page paging) = ReadsWords paging.files.items
+ReadsAsked (asked.Find finding) = WritesNothing
 ReadsAsked (asked.Change change) = ReadsWork change
 ReadsAsked (asked.Tell text) = ReadsNothing
 

@@ -17,6 +17,7 @@ use file_acts::acts::{Acts, write_out};
 use file_acts::host::Host;
 use file_acts::message::{BAD_WORDS, CANT_GO_ON, DONE, finish, tell_bad_words};
 use fork_disk::{Unknown, World};
+use fork_shows::find::find_all;
 use fork_shows::failed::Failed;
 use fork_shows::outside::check_outputs;
 use fork_shows::page::write_page;
@@ -88,6 +89,7 @@ fn do_asked<W: World>(host: &Host<'_>, asked: Asked<'_>, acts: &mut Acts) -> u8
             finish(host, file, use_table(host, file, &unpacking, acts))
         }
         Asked::Page(asked) => write_page(host, &asked, acts),
+        Asked::Find(asked) => find_all(host, &asked, acts),
         Asked::Change(work) => run_work(host, work, acts),
         Asked::Tell(text) => tell(host, text, acts),
     }

@@ -1,11 +1,15 @@
 //! What the commands do that change files.
 
-ghost use Rattle.std.specs.Prelude.{◌≡◌, ◌≤◌, IfOk, option_map, true};
-ghost use Rattle.file_acts.specs.Acts.{WritesNothing};
+ghost use Rattle.std.specs.List.{find};
+ghost use Rattle.std.specs.Prelude.{◌≡◌, ◌≢◌, ◌≤◌, IfErr, IfOk, Ok, Err, bytes_eq, codes, option_map, true};
+ghost use Rattle.fork_change.specs.Copies.{is_unmet};
+ghost use Rattle.file_acts.specs.Acts.{ReadsNothing, WritesNothing};
+ghost use Rattle.image_acts.specs.Words.{ReadsBothWords, ReadsWord};
 ghost use Rattle.resfork.specs.Faults.{file_at_fault};
 ghost use Rattle.file_acts.specs.Saved.{ShowsSaved};
 ghost use Rattle.fork_saves.specs.Saving.{EndsSaved};
 ghost use Rattle.fork_saves.specs.Changing.{IsForFile, IsForNew};
+ghost use Rattle.resfork.specs.Ends.{CanCopy, ChangesOutside, ConvertsFile, Copies, CopiesChosen, CopiesIn, CopiesRows, DoesWork, EndsWork, Packs, Puts, PutsBytes, PutsIf, PutsInto, Removes, Sets, ended, unmet_why};
 ghost use Rattle.resfork.specs.Running.{ChangesFiles, IsForPlace, ReadsWork, is_dry_place, writes_nothing};
 
 use crate::rez::{Like, pack_folder, rez_file};
@@ -32,6 +36,7 @@ use image_acts::{check_outside, read};
 
 /// Does what is asked for. The result is the exit status.
 pub fn run_work(host: &Host<'_>, work: Work<'_>, acts: &mut Acts) -> u8
+    ensures does { EndsWork work.entry result acts.old.events acts.new.events }
     ensures few { result ≤ CANT_GO_ON }
     ensures quiet { writes_nothing work.entry ≡ true → ReadsWork work.entry acts.old.events acts.new.events }
     ensures saved { ChangesFiles work.entry → result ≡ DONE → EndsSaved acts.new.events }
@@ -45,6 +50,7 @@ pub fn run_work(host: &Host<'_>, work: Work<'_>, acts: &mut Acts) -> u8
 
 /// Does what is asked for. The result is the exit status, or which file is in the way.
 fn try_work<'a>(host: &Host<'_>, work: Work<'a>, acts: &mut Acts) -> Result<u8, Failed<'a>>
+    ensures does { DoesWork work.entry (ended result) acts.old.events acts.new.events }
     ensures few { IfOk result (λ status. status ≤ NOT_FOUND) }
     ensures quiet { writes_nothing work.entry ≡ true → ReadsWork work.entry acts.old.events acts.new.events }
     ensures saved { ChangesFiles work.entry → IfOk result (λ _. EndsSaved acts.new.events) }
@@ -70,6 +76,7 @@ fn try_work<'a>(host: &Host<'_>, work: Work<'a>, acts: &mut Acts) -> Result<u8, 
 
 /// Puts bytes in the place of a resource's, or adds it.
 fn put<'a>(host: &Host<'_>, asked: Putting<'a>, acts: &mut Acts) -> Result<u8, Failed<'a>>
+    ensures does { Puts asked.entry (ended result) acts.old.events acts.new.events }
     ensures done { IfOk result (λ status. status ≡ DONE) }
     ensures dry { asked.entry.target.is_dry ≡ true → WritesNothing acts.old.events acts.new.events }
     ensures saved { IsForFile asked.entry.target → IfOk result (λ _. EndsSaved acts.new.events) }
@@ -87,6 +94,7 @@ fn put_bytes(
     bytes: &[u8],
     acts: &mut Acts,
 ) -> Result<u8, Problem>
+    ensures does { PutsBytes asked.entry bytes.now result acts.old.events acts.new.events }
     ensures done { IfOk result (λ status. status ≡ DONE) }
     ensures dry { asked.entry.target.is_dry ≡ true → WritesNothing acts.old.events acts.new.events }
     ensures saved { IsForFile asked.entry.target → IfOk result (λ _. EndsSaved acts.new.events) }
@@ -102,6 +110,7 @@ fn put_bytes(
 
 /// Removes resources.
 fn remove<'a>(host: &Host<'_>, asked: &Removing<'a>, acts: &mut Acts) -> Result<u8, Failed<'a>>
+    ensures does { Removes asked.now (ended result) acts.old.events acts.new.events }
     ensures done { IfOk result (λ status. status ≡ DONE) }
     ensures dry { asked.now.target.is_dry ≡ true → WritesNothing acts.old.events acts.new.events }
     ensures saved { IsForFile asked.now.target → IfOk result (λ _. EndsSaved acts.new.events) }
@@ -116,6 +125,7 @@ fn remove<'a>(host: &Host<'_>, asked: &Removing<'a>, acts: &mut Acts) -> Result<
 
 /// Changes all of a resource but its bytes.
 fn set<'a>(host: &Host<'_>, asked: Setting<'a>, acts: &mut Acts) -> Result<u8, Failed<'a>>
+    ensures does { Sets asked.entry (ended result) acts.old.events acts.new.events }
     ensures done { IfOk result (λ status. status ≡ DONE) }
     ensures dry { asked.entry.target.is_dry ≡ true → WritesNothing acts.old.events acts.new.events }
     ensures saved { IsForFile asked.entry.target → IfOk result (λ _. EndsSaved acts.new.events) }
@@ -131,6 +141,7 @@ fn set<'a>(host: &Host<'_>, asked: Setting<'a>, acts: &mut Acts) -> Result<u8, F
 
 /// Copies resources of a file to another.
 fn copy_from<'a>(host: &Host<'_>, asked: &Copying<'a>, acts: &mut Acts) -> Result<u8, Failed<'a>>
+    ensures does { Copies asked.now (ended result) acts.old.events acts.new.events }
     ensures done { IfOk result (λ status. status ≡ DONE) }
     ensures dry { asked.now.target.is_dry ≡ true → WritesNothing acts.old.events acts.new.events }
     ensures saved { IsForFile asked.now.target → IfOk result (λ _. EndsSaved acts.new.events) }
@@ -138,8 +149,25 @@ fn copy_from<'a>(host: &Host<'_>, asked: &Copying<'a>, acts: &mut Acts) -> Resul
 {
     let from = asked.from;
     let bytes = of_file(from, read::<Unknown>(host, from, acts))?;
-    let found = of_file(from, fork_found(host.alloc(), &bytes))?;
-    let table = of_file(from, table_found(host.alloc(), &found, &bytes))?;
+    copy_in(host, asked, &bytes, acts)
+}
+
+/// Copies resources of a file with these bytes to another.
+fn copy_in<'a>(
+    host: &Host<'_>,
+    asked: &Copying<'a>,
+    bytes: &[u8],
+    acts: &mut Acts,
+) -> Result<u8, Failed<'a>>
+    ensures does { CopiesIn asked.now bytes.now (ended result) acts.old.events acts.new.events }
+    ensures done { IfOk result (λ status. status ≡ DONE) }
+    ensures dry { asked.now.target.is_dry ≡ true → WritesNothing acts.old.events acts.new.events }
+    ensures saved { IsForFile asked.now.target → IfOk result (λ _. EndsSaved acts.new.events) }
+    ensures seen { IsForFile asked.now.target → ShowsSaved acts.old.events acts.new.events }
+{
+    let from = asked.from;
+    let found = of_file(from, fork_found(host.alloc(), bytes))?;
+    let table = of_file(from, table_found(host.alloc(), &found, bytes))?;
     copy_rows(host, asked, table.rows.as_slice(), acts)
 }
 
@@ -150,38 +178,67 @@ pub fn copy_rows<'a>(
     rows: &[Row<'_>],
     acts: &mut Acts,
 ) -> Result<u8, Failed<'a>>
+    ensures does { CopiesRows asked.now.target asked.now.chosen.items asked.now.on_collision rows.now (ended result) acts.old.events acts.new.events }
     ensures done { IfOk result (λ status. status ≡ DONE) }
     ensures dry { asked.now.target.is_dry ≡ true → WritesNothing acts.old.events acts.new.events }
     ensures saved { IsForFile asked.now.target → IfOk result (λ _. EndsSaved acts.new.events) }
     ensures seen { IsForFile asked.now.target → ShowsSaved acts.old.events acts.new.events }
 {
-    let chosen = asked.chosen.as_slice();
-    of_file(asked.from, can_copy(host, chosen, rows))?;
+    of_file(
+        asked.from,
+        can_copy(host.alloc(), asked.chosen.as_slice(), rows),
+    )?;
+    of_file(asked.target.file, copy_chosen(host, asked, rows, acts))
+}
+
+/// The same, where they can be copied.
+fn copy_chosen(
+    host: &Host<'_>,
+    asked: &Copying<'_>,
+    rows: &[Row<'_>],
+    acts: &mut Acts,
+) -> Result<u8, Problem>
+    ensures does { CopiesChosen asked.now.target asked.now.chosen.items asked.now.on_collision rows.now result acts.old.events acts.new.events }
+    ensures done { IfOk result (λ status. status ≡ DONE) }
+    ensures dry { asked.now.target.is_dry ≡ true → WritesNothing acts.old.events acts.new.events }
+    ensures saved { IsForFile asked.now.target → IfOk result (λ _. EndsSaved acts.new.events) }
+    ensures seen { IsForFile asked.now.target → ShowsSaved acts.old.events acts.new.events }
+{
     let edit = Edit::Copy {
-        chosen,
+        chosen: asked.chosen.as_slice(),
         on_collision: asked.on_collision,
     };
-    of_file(
-        asked.target.file,
-        change(host, &asked.target, rows, edit, acts),
-    )
+    change(host, &asked.target, rows, edit, acts)
+}
+
+/// What is reported of the first choice that means no row, if there is one.
+fn unmet_why(chosen: &[Choice], rows: &[Row<'_>]) -> Option<Problem>
+    ensures { result ≡ unmet_why (find (is_unmet rows.now) chosen.now) }
+{
+    match unmet(chosen, rows) {
+        Some(Choice::One(what)) => Some(Problem::Edit(Refusal::Missing(*what))),
+        Some(Choice::Kind(kind)) => Some(Problem::NoKind(*kind)),
+        Some(Choice::All) | None => None,
+    }
 }
 
 /// Whether each choice means a row, and no two rows that are meant have one type and id.
-fn can_copy(host: &Host<'_>, chosen: &[Choice], rows: &[Row<'_>]) -> Result<(), Problem> {
-    match unmet(chosen, rows) {
-        Some(Choice::One(what)) => return Err(Problem::Edit(Refusal::Missing(*what))),
-        Some(Choice::Kind(kind)) => return Err(Problem::NoKind(*kind)),
-        _ => {}
+pub fn can_copy(alloc: Global, chosen: &[Choice], rows: &[Row<'_>]) -> Result<(), Problem>
+    ensures { CanCopy chosen.now rows.now result }
+{
+    if let Some(problem) = unmet_why(chosen, rows) {
+        return Err(problem);
     }
-    match second_of(host.alloc(), chosen, rows)? {
-        Some(_) => Err(Problem::Twice),
-        None => Ok(()),
+    match second_of(alloc, chosen, rows) {
+        Ok(Some(_)) => Err(Problem::Twice),
+        Ok(None) => Ok(()),
+        Err(_) => Err(Problem::HostFull),
     }
 }
 
 /// Writes a file in another container.
 fn convert_file(host: &Host<'_>, asked: &Conversion<'_>, acts: &mut Acts) -> Result<u8, Problem>
+    ensures does { ConvertsFile asked.now result acts.old.events acts.new.events }
     ensures done { IfOk result (λ status. status ≡ DONE) }
     ensures dry { asked.now.target.is_dry ≡ true → WritesNothing acts.old.events acts.new.events }
     ensures saved { IsForNew asked.now → IfOk result (λ _. EndsSaved acts.new.events) }
@@ -193,6 +250,7 @@ fn convert_file(host: &Host<'_>, asked: &Conversion<'_>, acts: &mut Acts) -> Res
 
 /// Writes a fork of the files in a folder, alone or in a file like another one; or puts its resources into a file.
 fn pack<'a>(host: &Host<'_>, asked: Packing<'a>, acts: &mut Acts) -> Result<u8, Failed<'a>>
+    ensures does { Packs asked.entry (ended result) acts.old.events acts.new.events }
     ensures done { IfOk result (λ status. status ≡ DONE) }
     ensures dry { is_dry_place asked.entry.place ≡ true → WritesNothing acts.old.events acts.new.events }
     ensures saved { IsForPlace asked.entry.place → IfOk result (λ _. EndsSaved acts.new.events) }
@@ -221,13 +279,14 @@ pub fn file_at_fault<'a>(like: Option<&'a str>, source: &'a str, problem: &Probl
 }
 
 /// Changes the resources of a file, unless it is in a disk image.
-pub fn change(
+fn change(
     host: &Host<'_>,
     target: &Target<'_>,
     from: &[Row<'_>],
     edit: Edit<'_>,
     acts: &mut Acts,
 ) -> Result<u8, Problem>
+    ensures does { ChangesOutside target.now from.now edit.entry result acts.old.events acts.new.events }
     ensures done { IfOk result (λ status. status ≡ DONE) }
     ensures dry { target.now.is_dry ≡ true → WritesNothing acts.old.events acts.new.events }
     ensures saved { IsForFile target.now → IfOk result (λ _. EndsSaved acts.new.events) }
@@ -245,18 +304,36 @@ fn put_into(
     edit: Edit<'_>,
     acts: &mut Acts,
 ) -> Result<u8, Problem>
+    ensures does { PutsInto target.now creates edit.entry result acts.old.events acts.new.events }
+    ensures done { IfOk result (λ status. status ≡ DONE) }
+    ensures dry { target.now.is_dry ≡ true → WritesNothing acts.old.events acts.new.events }
+    ensures saved { IsForFile target.now → IfOk result (λ _. EndsSaved acts.new.events) }
+    ensures seen { IsForFile target.now → ShowsSaved acts.old.events acts.new.events }
+{
+    check_outside::<Unknown>(host, target.file, acts)?;
+    put_outside(host, target, creates, edit, acts)
+}
+
+/// The same of a file that is in no disk image. It isn't asked where the standard input leads to.
+fn put_outside(
+    host: &Host<'_>,
+    target: &Target<'_>,
+    creates: bool,
+    edit: Edit<'_>,
+    acts: &mut Acts,
+) -> Result<u8, Problem>
+    ensures does { PutsIf (bytes_eq target.now.file.now (codes "-")) creates target.now edit.entry result acts.old.events acts.new.events }
     ensures done { IfOk result (λ status. status ≡ DONE) }
     ensures dry { target.now.is_dry ≡ true → WritesNothing acts.old.events acts.new.events }
     ensures saved { IsForFile target.now → IfOk result (λ _. EndsSaved acts.new.events) }
     ensures seen { IsForFile target.now → ShowsSaved acts.old.events acts.new.events }
 {
     if target.file == INPUT {
-        return change(host, target, &[], edit, acts);
+        return change_file(host, target, &[], edit, acts);
     }
-    check_outside::<Unknown>(host, target.file, acts)?;
     match look_at(host, target.file, acts) {
         Ok(None) if creates => create_file(host, target, &[], edit, acts),
         Ok(None) => Err(Problem::NoFile),
-        _ => change(host, target, &[], edit, acts),
+        Ok(Some(_)) | Err(_) => change_file(host, target, &[], edit, acts),
     }
 }

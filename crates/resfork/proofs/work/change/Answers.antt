@@ -1,5 +1,15 @@
+use Rattle.fork_saves.proofs.Steps.{then_done, then_not}
+use Rattle.resfork.specs.Ends.{ChangesOutside}
 use Rattle.resfork.proofs.Ended.{ends_as, changed_saved}
 use Rattle.resfork.proofs.work.change.Goals as goal
+
+pub returns-clause-does : goal.returns-clause-does
+unfolding ChangesOutside
+returns-clause-does c = then_done _ _ c.in_ok-check_outside.field-0 c.check_outside.new.acts.events _ _ _ c.in_ok-check_outside.ensures.quiet c.change_file.ensures.does
+
+pub returns-in_err-check_outside-clause-does : goal.returns-in_err-check_outside-clause-does
+unfolding ChangesOutside
+returns-in_err-check_outside-clause-does c = then_not _ _ c.from_residual.result c.in_err-check_outside.field-0.0 _ _ c.from_residual.ensures.1 c.in_err-check_outside.ensures.quiet
 
 pub returns-clause-saved : goal.returns-clause-saved
 returns-clause-saved c = λ for. let new = c.change_file.new.acts.events in

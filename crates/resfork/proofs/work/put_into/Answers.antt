@@ -1,7 +1,11 @@
-use Rattle.std.proofs.Common.{rules, []}
-use Rattle.resfork.proofs.Ended.{ends_as, made_saved}
+use Rattle.fork_saves.proofs.Steps.{then_done, then_not}
+use Rattle.resfork.specs.Ends.{PutsInto}
 use Rattle.resfork.proofs.work.put_into.Goals as goal
 
-pub returns-in-Ok-None-clause-saved : goal.returns-in-Ok-None-clause-saved
-returns-in-Ok-None-clause-saved c = λ for. let new = c.create_file.new.acts.events in
-    made_saved c.create_file.result new (c.create_file.ensures.saved for (search rules)) (λ ends. ends_as [] ends.0 new ends.2)
+pub returns-clause-does : goal.returns-clause-does
+unfolding PutsInto
+returns-clause-does c = then_done _ _ c.in_ok-check_outside.field-0 c.check_outside.new.acts.events _ _ _ c.in_ok-check_outside.ensures.quiet c.put_outside.ensures.does
+
+pub returns-in_err-check_outside-clause-does : goal.returns-in_err-check_outside-clause-does
+unfolding PutsInto
+returns-in_err-check_outside-clause-does c = then_not _ _ c.from_residual.result c.in_err-check_outside.field-0.0 _ _ c.from_residual.ensures.1 c.in_err-check_outside.ensures.quiet
