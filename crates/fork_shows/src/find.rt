@@ -82,7 +82,7 @@ fn find_in_file(
     let found = fork_found(host.alloc(), &bytes)?;
     let table = table_found(host.alloc(), &found, &bytes)?;
     let lines = found_lines(host.alloc(), sought, table.rows.as_slice())?;
-    write_lines(host, Titles::BeforeLines, &[], file, lines.as_bytes(), acts)?;
+    write_lines(host, Titles::BeforeLines, true, file, lines.as_bytes(), acts)?;
     Ok(!lines.as_str().is_empty())
 }
 
