@@ -33,6 +33,7 @@ use fork_shows::texts::list_texts;
 use fork_words::INPUT;
 use fork_words::work::{Conversion, Copying, Packing, Putting, Removing, Setting, Target, Work};
 use image_acts::{check_outside, read};
+use std::alloc::Global;
 
 /// Does what is asked for. The result is the exit status.
 pub fn run_work(host: &Host<'_>, work: Work<'_>, acts: &mut Acts) -> u8
