@@ -220,8 +220,17 @@ def try_changes(program, path):
     for words in (["put", inside, "TEXT", "128", "-i", path], ["put", "--create", f"{path}:New", "TEXT", "1", "-i", path], ["rm", inside, "TEXT", "128"],
                   ["set", inside, "TEXT", "128", "--id", "5"], ["cp", f"{path}.rsrc", inside], ["rm", "-n", inside, "TEXT", "128"]):
         compare(f"{words}", run(program, words), 2, b"", message("in an image"))
+    rsrc, new = f"{path}.rsrc", f"{path}:New"
+    write(f"{path}.r", run(program, ["derez", rsrc])[1])
+    run(program, ["unpack", rsrc, f"{path}.unpacked"])
+    for words in (["get", rsrc, "TEXT", "128", "-o", new], ["get", inside, "TEXT", "128", "-o", new], ["show", rsrc, "STR", "1", "-o", new], ["page", rsrc, "-o", new],
+                  ["salvage", rsrc, "-o", new], ["salvage", inside, "--data", new], ["unpack", rsrc, new], ["convert", "--to", "macbinary", rsrc, new],
+                  ["convert", "--to", "appledouble", inside, f"{path}.double", "--data", new], ["put", rsrc, "TEXT", "128", "-i", path, "-o", new],
+                  ["rm", rsrc, "TEXT", "128", "-o", new], ["set", rsrc, "TEXT", "128", "--id", "5", "-o", new], ["rez", f"{path}.r", "-o", new],
+                  ["cp", rsrc, rsrc, "--replace", "-o", new], ["pack", f"{path}.unpacked", new], ["get", rsrc, "TEXT", "128", "-o", inside]):
+        compare(f"{words}", run(program, words), 2, b"", f"{words[-1]}: {message('into an image')}")
     with open(path, "rb") as file:
-        must(file.read() == ONE and not os.path.exists(f"{path}:New"), "an image was changed")
+        must(file.read() == ONE and not os.path.exists(new) and not os.path.exists(inside), "an image was changed")
 
 
 def hostile(count, depth=255):

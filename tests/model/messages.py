@@ -79,6 +79,7 @@ ROWS = {
         "compressed": "compressed, {count} bytes unpacked; its bytes can be had with get",
         "not all shown": "not all of these resources can be shown so",
         "in an image": "it is in a disk image, and files there are only read: resfork convert takes it out",
+        "into an image": "it would be in a disk image, and images are only read: name a file outside of it",
     },
     # there is no resource fork, or a damaged one, or a text or a folder isn't what derez or unpack writes
     3: {

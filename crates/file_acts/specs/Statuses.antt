@@ -41,6 +41,7 @@ is_of_words problem.Terminal = true
 is_of_words problem.NoDataFile = true
 is_of_words problem.OneFile = true
 is_of_words problem.InImage = true
+is_of_words problem.IntoImage = true
 is_of_words other = false
 
 -- a file has no resource fork, or a damaged one; or a text or a folder says no resources

@@ -152,6 +152,9 @@ pub enum Problem {
     /// A file in a disk image would be changed.
     #[error("it is in a disk image, and files there are only read: resfork convert takes it out")]
     InImage,
+    /// A file would be written in a disk image.
+    #[error("it would be in a disk image, and images are only read: name a file outside of it")]
+    IntoImage,
     /// The host has no memory.
     #[error("the host has no memory")]
     HostFull,
@@ -264,6 +267,7 @@ impl Problem {
             | Problem::NoDataFile
             | Problem::OneFile
             | Problem::InImage
+            | Problem::IntoImage
             | Problem::View(NotShown::NoPicture(_))
             | Problem::View(NotShown::NoText)
             | Problem::View(NotShown::Compressed(_))

@@ -20,7 +20,11 @@ use mac_base::error::HostFull;
 use std::alloc::Global;
 
 /// Writes what differs between two files. The result says whether something does.
-pub fn compare<'a>(host: &Host<'_>, asked: Comparison<'a>, acts: &mut Acts) -> Result<u8, Failed<'a>>
+pub fn compare<'a>(
+    host: &Host<'_>,
+    asked: Comparison<'a>,
+    acts: &mut Acts,
+) -> Result<u8, Failed<'a>>
     ensures few { IfOk result (λ status. status ≤ NOT_FOUND) }
     ensures quiet { ReadsBothWords asked.entry.a.now asked.entry.b.now acts.old.events acts.new.events }
 {

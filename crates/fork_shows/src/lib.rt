@@ -6,6 +6,8 @@ pub mod compare;
 pub mod derez;
 pub mod failed;
 mod images;
+mod output;
+pub mod outside;
 pub mod page;
 pub mod report;
 pub mod salvage;

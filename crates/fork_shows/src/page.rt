@@ -1,11 +1,14 @@
 //! A page of HTML that shows what files have.
 
-ghost use Rattle.std.specs.Prelude.{◌≡◌, ◌≤◌, IfOk, is_none, true};
+ghost use Rattle.std.specs.Prelude.{◌≡◌, ◌++◌, ◌≤◌, ℕ, IfOk, List, is_none, true};
 ghost use Rattle.file_acts.specs.Acts.{ReadsNothing};
 ghost use Rattle.image_acts.specs.Words.{ReadsWord, ReadsWords};
+ghost use Rattle.fork_shows.specs.Pages.{AddsFiles, AddsNamed, HasFiles};
+ghost use Rattle.fork_shows.specs.Written.{IsWritten};
 
+use crate::output::write_to;
 use crate::several::higher;
-use file_acts::acts::{Acts, print};
+use file_acts::acts::Acts;
 use file_acts::found::{fork_found, table_found};
 use file_acts::host::{Host, OUTPUT};
 use file_acts::message::{CANT_GO_ON, DONE, Problem, finish};
@@ -13,7 +16,6 @@ use fork_bytes::table::Row;
 use fork_disk::Unknown;
 use fork_page::{PageFile, end_page, new_page, push_file};
 use fork_report::{Digests, Form, Report, report_on};
-use fork_saves::save::save_to;
 use fork_words::asked::Paging;
 use image_acts::read;
 use path_text::FileName;
@@ -23,6 +25,7 @@ use std::alloc::Global;
 pub fn write_page(host: &Host<'_>, asked: &Paging<'_>, acts: &mut Acts) -> u8
     ensures few { result ≤ CANT_GO_ON }
     ensures quiet { is_none asked.now.output ≡ true → ReadsWords asked.now.files.items acts.old.events acts.new.events }
+    ensures all { result ≡ DONE → (page : List ℕ) × HasFiles asked.now.files.items page × IsWritten asked.now.output page acts.new.events }
 {
     let output = asked.output.unwrap_or(OUTPUT);
     let mut page = match new_page(host.alloc()) {
@@ -38,6 +41,7 @@ pub fn write_page(host: &Host<'_>, asked: &Paging<'_>, acts: &mut Acts) -> u8
 fn add_files(host: &Host<'_>, files: &[&str], page: &mut Vec<u8>, acts: &mut Acts) -> u8
     ensures few { result ≤ CANT_GO_ON }
     ensures quiet { ReadsWords files.now acts.old.events acts.new.events }
+    ensures all { result ≡ DONE → AddsFiles files.now page.old.items page.new.items }
 {
     let mut status = DONE;
     for file in files {
@@ -51,6 +55,7 @@ fn add_files(host: &Host<'_>, files: &[&str], page: &mut Vec<u8>, acts: &mut Act
 fn add_file(host: &Host<'_>, file: &str, page: &mut Vec<u8>, acts: &mut Acts) -> Result<u8, Problem>
     ensures done { IfOk result (λ status. status ≡ DONE) }
     ensures quiet { ReadsWord file.now acts.old.events acts.new.events }
+    ensures added { IfOk result (λ _. AddsNamed file.now page.old.items page.new.items) }
 {
     let bytes = read::<Unknown>(host, file, acts)?;
     let found = fork_found(host.alloc(), &bytes)?;
@@ -66,7 +71,9 @@ fn add_rows(
     bytes: &[u8],
     rows: &[Row<'_>],
     page: &mut Vec<u8>,
-) -> Result<(), Problem> {
+) -> Result<(), Problem>
+    ensures { IfOk result (λ _. AddsNamed file.now page.old.items page.new.items) }
+{
     let shown = FileName(file);
     let name = format!(in alloc; "{shown}")?;
     let report = Report::Info {
@@ -95,11 +102,9 @@ fn put_page(
 ) -> Result<u8, Problem>
     ensures done { IfOk result (λ status. status ≡ DONE) }
     ensures quiet { is_none output.entry ≡ true → ReadsNothing acts.old.events acts.new.events }
+    ensures written { IfOk result (λ _. (foot : List ℕ) × IsWritten output.entry (page.old.items ++ foot) acts.new.events) }
 {
     end_page(page)?;
-    match output {
-        Some(output) => save_to(host, output, page, acts)?,
-        None => print(host, page, acts)?,
-    }
+    write_to(host, output, page, acts)?;
     Ok(DONE)
 }

@@ -2,8 +2,9 @@
 
 ghost use Rattle.file_acts.specs.Acts.{ReadsNothing};
 ghost use Rattle.image_acts.specs.Words.{ReadsWord};
-ghost use Rattle.fork_shows.specs.Salvages.{only_lists};
-ghost use Rattle.std.specs.Prelude.{◌≡◌, IfOk, true};
+ghost use Rattle.fork_shows.specs.Salvages.{IsSalvaged, only_lists};
+ghost use Rattle.fork_shows.specs.Written.{IsSavedAt};
+ghost use Rattle.std.specs.Prelude.{◌≡◌, ℕ, IfOk, List, true};
 
 use file_acts::acts::{Acts, write_text};
 use file_acts::host::Host;
@@ -20,6 +21,7 @@ use path_text::FileName;
 pub fn salvage_file(host: &Host<'_>, asked: Salvaging<'_>, acts: &mut Acts) -> Result<u8, Problem>
     ensures done { IfOk result (λ status. status ≡ DONE) }
     ensures quiet { only_lists asked.entry.what ≡ true → ReadsWord asked.entry.file.now acts.old.events acts.new.events }
+    ensures saved { IfOk result (λ _. IsSalvaged asked.entry.what acts.new.events) }
 {
     match salvaged(host, asked, acts) {
         Ok(()) => Ok(DONE),
@@ -30,6 +32,7 @@ pub fn salvage_file(host: &Host<'_>, asked: Salvaging<'_>, acts: &mut Acts) -> R
 /// Lists what can be read of a file, or writes it to another.
 fn salvaged(host: &Host<'_>, asked: Salvaging<'_>, acts: &mut Acts) -> Result<(), Problem>
     ensures quiet { only_lists asked.entry.what ≡ true → ReadsWord asked.entry.file.now acts.old.events acts.new.events }
+    ensures saved { IfOk result (λ _. IsSalvaged asked.entry.what acts.new.events) }
 {
     let bytes = read::<Unknown>(host, asked.file, acts)?;
     match asked.what {
@@ -67,40 +70,40 @@ fn write_salvaged(
 }
 
 /// Writes the data fork of a file with these bytes to another.
-fn save_data<'a>(
+fn save_data(
     host: &Host<'_>,
     file: &str,
     bytes: &[u8],
-    output: &'a str,
+    output: &str,
     acts: &mut Acts,
-) -> Result<(), Problem> {
+) -> Result<(), Problem>
+    ensures { IfOk result (λ _. (bytes : List ℕ) × IsSavedAt output.now bytes acts.new.events) }
+{
     match salvage_data(host.alloc(), bytes) {
         Ok(salvaged) => {
-            let done = save_to(host, output, salvaged.bytes(), acts);
-            if done.is_ok() {
-                tell_damage(host, file, salvaged.damage);
-            }
-            done
+            save_to(host, output, salvaged.bytes(), acts)?;
+            tell_damage(host, file, salvaged.damage);
+            Ok(())
         }
         Err(refusal) => Err(Problem::Refused(refusal)),
     }
 }
 
 /// Writes what can be read of a file with these bytes to another.
-fn save_salvaged<'a>(
+fn save_salvaged(
     host: &Host<'_>,
     file: &str,
     bytes: &[u8],
-    output: &'a str,
+    output: &str,
     acts: &mut Acts,
-) -> Result<(), Problem> {
+) -> Result<(), Problem>
+    ensures { IfOk result (λ _. (bytes : List ℕ) × IsSavedAt output.now bytes acts.new.events) }
+{
     match salvage(host.alloc(), bytes) {
         Ok(salvaged) => {
-            let done = save_to(host, output, &salvaged.bytes, acts);
-            if done.is_ok() {
-                tell_salvaged(host, file, output, &salvaged);
-            }
-            done
+            save_to(host, output, &salvaged.bytes, acts)?;
+            tell_salvaged(host, file, output, &salvaged);
+            Ok(())
         }
         Err(refusal) => Err(Problem::Refused(refusal)),
     }

@@ -2,10 +2,13 @@
 
 ghost use Rattle.image_acts.specs.Words.{ReadsWord, ReadsWords};
 ghost use Rattle.std.specs.Prelude.{◌≡◌, ◌≤◌, IfOk, is_none, true};
+ghost use Rattle.fork_answer.specs.Answer.{is_get};
+ghost use Rattle.fork_shows.specs.Written.{WritesLast};
 
 use crate::images::print_images;
+use crate::output::write_to;
 use crate::several::{higher, note_archive, write_lines};
-use file_acts::acts::{Acts, print};
+use file_acts::acts::Acts;
 use file_acts::found::refused_as;
 use file_acts::host::Host;
 use file_acts::message::{CANT_GO_ON, DONE, Problem, finish};
@@ -15,7 +18,6 @@ use fork_answer::answer::answer;
 use fork_answer::request::Request;
 use fork_disk::World;
 use fork_report::archive_inside;
-use fork_saves::save::save_to;
 use fork_words::asked::Showing;
 use image_acts::read;
 use std::io::IsTerminal;
@@ -43,6 +45,7 @@ fn show_file<W: World>(
 ) -> Result<u8, Problem>
     ensures done { IfOk result (λ status. status ≡ DONE) }
     ensures quiet { is_none asked.now.output ≡ true → ReadsWord file.now acts.old.events acts.new.events }
+    ensures written { is_get asked.now.request ≡ true → IfOk result (λ _. WritesLast asked.now.output acts.new.events) }
 {
     match show::<W>(host, asked, file, acts) {
         Ok(()) => Ok(DONE),
@@ -58,12 +61,12 @@ fn show<W: World>(
     acts: &mut Acts,
 ) -> Result<(), Problem>
     ensures quiet { is_none asked.now.output ≡ true → ReadsWord file.now acts.old.events acts.new.events }
+    ensures written { is_get asked.now.request ≡ true → IfOk result (λ _. WritesLast asked.now.output acts.new.events) }
 {
     match asked.output {
-        Some(output) => save_answer::<W>(host, &asked.request, file, output, acts),
         None if !asked.request.is_for_files() => print_list::<W>(host, asked, file, acts),
         None if host.rt.stdout().is_terminal() => Err(Problem::Terminal),
-        None => print_answer::<W>(host, &asked.request, file, acts),
+        output => write_answer::<W>(host, &asked.request, file, output, acts),
     }
 }
 
@@ -95,29 +98,19 @@ fn note_inside(host: &Host<'_>, file: &str, answered: &Answered) {
     }
 }
 
-/// Writes what is asked for of the file of this name to another.
-fn save_answer<W: World>(
+/// Writes what is asked for of the file of this name, to another or to the standard output.
+fn write_answer<W: World>(
     host: &Host<'_>,
     request: &Request,
     file: &str,
-    output: &str,
-    acts: &mut Acts,
-) -> Result<(), Problem> {
-    let answered = answer_file::<W>(host, request, file, acts)?;
-    save_to(host, output, &answered.text, acts)
-}
-
-/// Writes what is asked for of the file of this name to the standard output.
-fn print_answer<W: World>(
-    host: &Host<'_>,
-    request: &Request,
-    file: &str,
+    output: Option<&str>,
     acts: &mut Acts,
 ) -> Result<(), Problem>
-    ensures quiet { ReadsWord file.now acts.old.events acts.new.events }
+    ensures quiet { is_none output.entry ≡ true → ReadsWord file.now acts.old.events acts.new.events }
+    ensures written { IfOk result (λ _. WritesLast output.entry acts.new.events) }
 {
     let answered = answer_file::<W>(host, request, file, acts)?;
-    print(host, &answered.text, acts)
+    write_to(host, output, &answered.text, acts)
 }
 
 /// What is asked for of a file, and the file's bytes, where all of them were read.

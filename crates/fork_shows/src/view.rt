@@ -2,13 +2,14 @@
 
 ghost use Rattle.file_acts.specs.Acts.{ReadsNothing};
 ghost use Rattle.std.specs.Prelude.{◌≡◌, IfOk, is_none, true};
+ghost use Rattle.fork_shows.specs.Written.{IsWritten};
 
+use crate::output::write_to;
 use crate::table_use::{TableUse, check_kinds};
-use file_acts::acts::{Acts, note_unpacked, print};
+use file_acts::acts::{Acts, note_unpacked};
 use file_acts::host::Host;
 use file_acts::message::{DONE, Problem};
 use fork_bytes::table::{Row, Table};
-use fork_saves::save::save_to;
 use fork_view::unpack::unpack;
 use fork_view::{Chosen, NotShown, Sight, Unpacking, sight_of};
 use fork_words::asked::Viewing;
@@ -46,6 +47,7 @@ fn show_sight(
 ) -> Result<u8, Problem>
     ensures done { IfOk result (λ status. status ≡ DONE) }
     ensures quiet { is_none output.entry ≡ true → ReadsNothing acts.old.events acts.new.events }
+    ensures written { IfOk result (λ _. IsWritten output.entry sight.bytes.items acts.new.events) }
 {
     write_sight(host, &sight, output, acts)?;
     if sight.untold.is_empty() {
@@ -78,12 +80,12 @@ fn write_sight(
     acts: &mut Acts,
 ) -> Result<(), Problem>
     ensures quiet { is_none output.entry ≡ true → ReadsNothing acts.old.events acts.new.events }
+    ensures written { IfOk result (λ _. IsWritten output.entry sight.now.bytes.items acts.new.events) }
 {
-    match output {
-        Some(output) => save_to(host, output, &sight.bytes, acts),
-        None if sight.is_binary && host.rt.stdout().is_terminal() => Err(Problem::Terminal),
-        None => print(host, &sight.bytes, acts),
+    if output.is_none() && sight.is_binary && host.rt.stdout().is_terminal() {
+        return Err(Problem::Terminal);
     }
+    write_to(host, output, &sight.bytes, acts)
 }
 
 impl TableUse for Unpacking<'_> {

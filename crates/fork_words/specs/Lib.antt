@@ -9,3 +9,4 @@ pub mod Places
 pub mod Texts
 pub mod Changes
 pub mod Asked
+pub mod Outputs

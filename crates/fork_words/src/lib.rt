@@ -5,6 +5,7 @@ pub mod asked;
 mod command;
 mod ending;
 pub mod fault;
+mod outputs;
 pub mod size;
 pub mod texts;
 pub mod work;

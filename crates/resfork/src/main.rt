@@ -17,6 +17,8 @@ use file_acts::acts::{Acts, write_out};
 use file_acts::host::Host;
 use file_acts::message::{BAD_WORDS, CANT_GO_ON, DONE, finish, tell_bad_words};
 use fork_disk::{Unknown, World};
+use fork_shows::failed::Failed;
+use fork_shows::outside::check_outputs;
 use fork_shows::page::write_page;
 use fork_shows::report::report_all;
 use fork_shows::salvage::salvage_file;
@@ -55,12 +57,25 @@ fn run(rt: &HostRuntime) -> u8
     }
 }
 
-/// Does what is asked for. The result is the exit status.
+/// Does what is asked for, unless something would be written in a disk image. The result is the exit status.
 fn run_asked<W: World>(host: &Host<'_>, asked: Asked<'_>, acts: &mut Acts) -> u8
     ensures few { result ≤ CANT_GO_ON }
     ensures quiet { only_reads asked.entry ≡ true → ReadsAsked asked.entry acts.old.events acts.new.events }
     // A command that changes files ends with status 0 only after the last one was saved, or had nothing to change; and
     // whatever it printed, it had saved a file just before.
+    ensures saved { ChangesAsked asked.entry → result ≡ DONE → EndsSaved acts.new.events }
+    ensures seen { ChangesAsked asked.entry → ShowsSaved acts.old.events acts.new.events }
+{
+    match check_outputs(host, &asked, acts) {
+        Ok(()) => do_asked::<W>(host, asked, acts),
+        Err(Failed { file, problem }) => finish(host, file, Err(problem)),
+    }
+}
+
+/// The same where nothing is to be written in a disk image.
+fn do_asked<W: World>(host: &Host<'_>, asked: Asked<'_>, acts: &mut Acts) -> u8
+    ensures few { result ≤ CANT_GO_ON }
+    ensures quiet { only_reads asked.entry ≡ true → ReadsAsked asked.entry acts.old.events acts.new.events }
     ensures saved { ChangesAsked asked.entry → result ≡ DONE → EndsSaved acts.new.events }
     ensures seen { ChangesAsked asked.entry → ShowsSaved acts.old.events acts.new.events }
 {

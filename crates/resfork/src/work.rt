@@ -1,10 +1,9 @@
-//! What the commands do that change files, and those that compare them.
+//! What the commands do that change files.
 
 ghost use Rattle.std.specs.List.{find};
-ghost use Rattle.std.specs.Prelude.{◌≡◌, ◌≢◌, ◌≤◌, IfErr, IfOk, Ok, Err, bytes_eq, codes, option_map, true};
+ghost use Rattle.std.specs.Prelude.{◌≡◌, ◌≤◌, IfOk, bytes_eq, codes, option_map, true};
 ghost use Rattle.fork_change.specs.Copies.{is_unmet};
-ghost use Rattle.file_acts.specs.Acts.{ReadsNothing, WritesNothing};
-ghost use Rattle.image_acts.specs.Words.{ReadsBothWords, ReadsWord};
+ghost use Rattle.file_acts.specs.Acts.{WritesNothing};
 ghost use Rattle.resfork.specs.Faults.{file_at_fault};
 ghost use Rattle.file_acts.specs.Saved.{ShowsSaved};
 ghost use Rattle.fork_saves.specs.Saving.{EndsSaved};
@@ -14,18 +13,16 @@ ghost use Rattle.resfork.specs.Running.{ChangesFiles, IsForPlace, ReadsWork, is_
 
 use crate::rez::{Like, pack_folder, rez_file};
 use crate::texts::put_texts;
-use file_acts::acts::{Acts, look_at, write_text};
+use file_acts::acts::{Acts, look_at};
 use file_acts::found::{fork_found, table_found};
 use file_acts::host::Host;
 use file_acts::input;
 use file_acts::message::{CANT_GO_ON, DONE, NOT_FOUND, Problem, finish};
-use fork_bytes::table::{Row, Table};
-use fork_change::{Choice, Differences, Refusal};
+use fork_bytes::table::Row;
+use fork_change::{Choice, Refusal};
 use fork_disk::Unknown;
-use fork_edit::difference::text_of;
 use fork_edit::edit::{Edit, second_of, unmet};
 use fork_edit::file::NotWritten;
-use fork_report::{Form, difference_line};
 use fork_saves::change::{change_file, create_file};
 use fork_saves::convert::convert;
 use fork_shows::compare::compare;
@@ -33,11 +30,8 @@ use fork_shows::derez::derez_file;
 use fork_shows::failed::{Failed, of_file};
 use fork_shows::texts::list_texts;
 use fork_words::INPUT;
-use fork_words::work::{
-    Comparison, Conversion, Copying, Packing, Putting, Removing, Setting, Target, Work,
-};
+use fork_words::work::{Conversion, Copying, Packing, Putting, Removing, Setting, Target, Work};
 use image_acts::{check_outside, read};
-use mac_base::error::HostFull;
 use std::alloc::Global;
 
 /// Does what is asked for. The result is the exit status.
