@@ -48,11 +48,11 @@ pub fn change_source(
     acts: &mut Acts,
 ) -> Result<u8, Problem>
     requires { IsOpenedFor target.now source }
-    ensures does { ChangesSource target.now source.entry from.now edit.entry result acts.old.events acts.new.events }
+    ensures does { ChangesSource target.now source from.now edit.entry result acts.old.events acts.new.events }
     ensures done { IfOk result (λ status. status ≡ DONE) }
     ensures dry { target.now.is_dry ≡ true → WritesNothing acts.old.events acts.new.events }
-    ensures saved { IsForFile target.now → IsJustRead source.entry acts.old.events → IfOk result (λ _. EndsBy (source_bytes source.entry) from.now edit.entry acts.new.events) }
-    ensures seen { IsForFile target.now → IsJustRead source.entry acts.old.events → ShowsSaved acts.old.events acts.new.events }
+    ensures saved { IsForFile target.now → IsJustRead source acts.old.events → IfOk result (λ _. EndsBy (source_bytes source) from.now edit.entry acts.new.events) }
+    ensures seen { IsForFile target.now → IsJustRead source acts.old.events → ShowsSaved acts.old.events acts.new.events }
 {
     match source {
         Source::Read(old) => change_into(host, target, &old, from, edit, acts),

@@ -70,11 +70,11 @@ fn put_rows(
     acts: &mut Acts,
 ) -> Result<u8, Problem>
     requires { IsOpenedFor target.now source }
-    ensures does { PutsRowsIn target.now source.entry changed.now result acts.old.events acts.new.events }
+    ensures does { PutsRowsIn target.now source changed.now result acts.old.events acts.new.events }
     ensures done { IfOk result (λ status. status ≡ DONE) }
     ensures dry { target.now.is_dry ≡ true → WritesNothing acts.old.events acts.new.events }
-    ensures saved { IsForFile target.now → IsJustRead source.entry acts.old.events → IfOk result (λ _. EndsSaved acts.new.events) }
-    ensures seen { IsForFile target.now → IsJustRead source.entry acts.old.events → ShowsSaved acts.old.events acts.new.events }
+    ensures saved { IsForFile target.now → IsJustRead source acts.old.events → IfOk result (λ _. EndsSaved acts.new.events) }
+    ensures seen { IsForFile target.now → IsJustRead source acts.old.events → ShowsSaved acts.old.events acts.new.events }
 {
     let rows = rows_of(host.alloc(), changed)?;
     let edit = Edit::Copy {
@@ -93,11 +93,11 @@ fn put_in<'a>(
     acts: &mut Acts,
 ) -> Result<u8, Failed<'a>>
     requires { IsOpenedFor asked.target source }
-    ensures does { PutsLinesIn asked.entry.target lines.now source.entry (ended result) acts.old.events acts.new.events }
+    ensures does { PutsLinesIn asked.entry.target lines.now source (ended result) acts.old.events acts.new.events }
     ensures done { IfOk result (λ status. status ≡ DONE) }
     ensures dry { asked.entry.target.is_dry ≡ true → WritesNothing acts.old.events acts.new.events }
-    ensures saved { IsForFile asked.entry.target → IsJustRead source.entry acts.old.events → IfOk result (λ _. EndsSaved acts.new.events) }
-    ensures seen { IsForFile asked.entry.target → IsJustRead source.entry acts.old.events → ShowsSaved acts.old.events acts.new.events }
+    ensures saved { IsForFile asked.entry.target → IsJustRead source acts.old.events → IfOk result (λ _. EndsSaved acts.new.events) }
+    ensures seen { IsForFile asked.entry.target → IsJustRead source acts.old.events → ShowsSaved acts.old.events acts.new.events }
 {
     let changed = rows_put(host.alloc(), asked, lines, source.bytes())?;
     of_file(
