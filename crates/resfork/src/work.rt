@@ -1,10 +1,9 @@
 //! What the commands do that change files.
 
 ghost use Rattle.std.specs.List.{find};
-ghost use Rattle.std.specs.Prelude.{◌≡◌, ◌≢◌, ◌≤◌, IfErr, IfOk, Ok, Err, bytes_eq, codes, option_map, true};
+ghost use Rattle.std.specs.Prelude.{◌≡◌, ◌≤◌, IfOk, bytes_eq, codes, option_map, true};
 ghost use Rattle.fork_change.specs.Copies.{is_unmet};
-ghost use Rattle.file_acts.specs.Acts.{ReadsNothing, WritesNothing};
-ghost use Rattle.image_acts.specs.Words.{ReadsBothWords, ReadsWord};
+ghost use Rattle.file_acts.specs.Acts.{WritesNothing};
 ghost use Rattle.resfork.specs.Faults.{file_at_fault};
 ghost use Rattle.file_acts.specs.Saved.{ShowsSaved};
 ghost use Rattle.fork_saves.specs.Saving.{EndsSaved};
