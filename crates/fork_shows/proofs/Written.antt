@@ -11,6 +11,6 @@ printed bytes (Ok done) old new prints = (old, prints)
 printed bytes (Err why) old new prints = tt
 
 -- a condition of what is so where it went well may be asked later
-pub later : {A P : Type 0} (result : Result ⊤ Problem) → (A → IfOk result (λ done. P)) → IfOk result (λ done. A → P)
-later (Ok done) holds = holds
-later (Err why) holds = tt
+pub later : {A : Type 0} (P : Type 0) (result : Result ⊤ Problem) → (A → IfOk result (λ done. P)) → IfOk result (λ done. A → P)
+later P (Ok done) holds = holds
+later P (Err why) holds = tt

@@ -1,9 +1,11 @@
 -- What a text names in an image.
-use Rattle.std.specs.Prelude.{◌≡◌, ◌⊎◌, ⊤, ℕ, ◌||◌, Bool, true, List, [], length, take, Vec, Option, MatchOption, Result, Ok, Err, MatchResult}
+use Rattle.std.specs.Prelude.{◌≡◌, ◌⊎◌, ⊤, ℕ, ◌||◌, Bool, true, false, List, [], length, take, Option, None, Some, Result, Ok, Err, MatchResult}
+use Rattle.std.specs.Global.{Vec}
 use Rattle.disk_image.specs.Opening.{Refuses as RefusesImage}
 use Rattle.disk_image.specs.declared.fault.ImageFault.TheVariants.{Refused}
-use Rattle.disk_image.specs.declared.fault.OpenFault.TheVariants as OpenFault
+use Rattle.disk_image.specs.declared.fault.OpenFault.TheVariants as open_fault
 use Rattle.disk_image.specs.declared.known.Known.TheVariants.{Other}
+use Rattle.hfs_tree.specs.declared.fault.ReadFault.{ReadFault}
 use Rattle.mac_files.specs.Containers.{is_raw_by}
 use Rattle.mac_files.specs.Kinds.{is_known, kind_of}
 use Rattle.image_files.specs.Contents.{IsContents}
@@ -55,7 +57,7 @@ StatesFile opened limit result file = MatchResult result
 
 -- the text names the file at a place in the image that has these bytes
 pub record NamesFile (text file : List ℕ) (opened : Opened) (place : Place) : Type 0 where
-  pub opened : IsOpened text file opened
+  pub opens : IsOpened text file opened
   pub is : opened.found ≡ Ok (found.File place)
 
 -- The bytes of the file that a text names, in a container; or why there are none: nothing is looked for, it names no file, or
@@ -75,10 +77,26 @@ ReadsFile text limit result file = MatchResult result
 abbrev pub is_other : ℕ → List ℕ → Bool
 is_other size front = is_raw_by size front || is_known (kind_of front)
 
--- a file with these bytes is a resource fork or a container, by its first 4,096 bytes; or isn't known as an image
-abbrev pub IsNoImage : List ℕ → Type 0
-IsNoImage file = (is_other (length file) (take 4096 file) ≡ true) ⊎ RefusesImage file (OpenFault.Image (Refused Other))
+-- the same of a file with these bytes, by its first 4,096
+abbrev pub holds_fork : List ℕ → Bool
+holds_fork file = is_other (length file) (take 4096 file)
 
--- what an image has, or that it is none, or why it isn't read
+-- what was opened; none where it isn't known as an image
+abbrev pub if_image : Result Opened NotOpened → Result (Option Opened) NotOpened
+if_image (Ok opened) = Ok (Some opened)
+if_image (Err (Path fault)) = Err (Path fault)
+if_image (Err (Image (open_fault.Read fault))) = Err (Image (open_fault.Read fault))
+if_image (Err (Image (open_fault.Image (Refused Other)))) = Ok None
+if_image (Err (Image (open_fault.Image fault))) = Err (Image (open_fault.Image fault))
+
+-- It is no resource fork and no container, and is opened, with an empty path.
+pub record IsTried (file : List ℕ) (opened : Result Opened NotOpened) (result : Result (Option Opened) NotOpened) : Type 0 where
+  pub other : holds_fork file ≡ false
+  pub opens : OpensAt [] opened file
+  pub same : result ≡ if_image opened
+
+-- what an image has; none where it is a resource fork or a container, or isn't known as an image; or why it isn't read
 abbrev pub OpensImage : Result (Option Opened) NotOpened → List ℕ → Type 0
-OpensImage result file = MatchResult result (λ found. MatchOption found (IsNoImage file) (IsOpened [] file)) (StopsAt [] file)
+OpensImage result file = ((holds_fork file ≡ true) × (result ≡ Ok None))
+    ⊎ (((opened : Result Opened NotOpened) × IsTried file opened result)
+    ⊎ ((fault : ReadFault) × (result ≡ Err (Image (open_fault.Read fault)))))

@@ -1,12 +1,14 @@
 //! What a path names in an image.
 
-ghost use Rattle.std.specs.Prelude.{◌≡◌, length};
+ghost use Rattle.std.specs.Prelude.{◌≡◌, ◌≤◌, length, IfOk};
+ghost use Rattle.fork_disk.specs.Disk.{bytes_at};
 ghost use Rattle.hfs_tree.specs.Reads.{HasBytes, Learns};
-ghost use Rattle.image_open.specs.Opening.{OpensAt, OpensImage, ReadsFile, StatesFile, is_other};
+ghost use Rattle.image_open.specs.Opening.{OpensAt, OpensImage, ReadsFile, StatesFile, holds_fork, if_image, is_other};
 
 use disk_image::fault::{ImageFault, OpenFault};
 use disk_image::known::Known;
 use fork_disk::disk::ForkDisk;
+use hfs_tree::fault::ReadFault;
 use image_files::contents::Contents;
 use image_files::file::Forks;
 use image_files::found::{Found, NotFound};
@@ -100,9 +102,10 @@ pub fn read_path<D: StillDisk>(
 ) -> (D, Result<Vec<u8>, NotRead>)
     ensures { D.is_honest result.0 → Learns D.ForkDisk disk result.0 (ReadsFile text.now limit result.1) }
 {
-    match open_path(alloc, disk, text) {
-        (disk, Ok(opened)) => file_of(alloc, disk, opened, limit),
-        (disk, Err(fault)) => (disk, Err(NotRead::NotOpened(fault))),
+    let (after, opened) = open_path(alloc, disk, text);
+    match opened {
+        Ok(opened) => file_of(alloc, after, opened, limit),
+        Err(fault) => (after, Err(NotRead::NotOpened(fault))),
     }
 }
 
@@ -116,15 +119,34 @@ fn is_other(size: u64, front: &[u8]) -> bool
     is_raw(size as usize, front) || kind_of(front).is_known()
 }
 
-/// Whether a disk is a resource fork or a container of a file. Without memory, and where it can't be read, it isn't known to be.
-fn holds_fork<D: ForkDisk>(alloc: Global, disk: &mut D) -> bool {
-    let Ok(size) = disk.len() else {
-        return false;
-    };
-    let Ok(mut front) = vec![in alloc; 0; size.min(FRONT) as usize] else {
-        return false;
-    };
-    disk.read_at(0, &mut front).is_ok() && is_other(size, &front)
+/// So many bytes at the beginning of a disk.
+fn front_of<D: ForkDisk>(alloc: Global, disk: &mut D, size: usize) -> Result<Vec<u8>, ReadFault>
+    requires { HasBytes D.ForkDisk disk.old (λ file. size ≤ length file) }
+    ensures reads { D.is_honest disk.new → Learns D.ForkDisk disk.old disk.new (λ file. IfOk result (λ front. front.items ≡ bytes_at size 0 file)) }
+{
+    let mut front = vec![in alloc; 0; size]?;
+    disk.read_at(0, &mut front)?;
+    Ok(front)
+}
+
+/// Whether a disk is a resource fork or a container of a file.
+fn holds_fork<D: ForkDisk>(alloc: Global, disk: &mut D) -> Result<bool, ReadFault>
+    ensures reads { D.is_honest disk.new → Learns D.ForkDisk disk.old disk.new (λ file. IfOk result (λ is. is ≡ holds_fork file)) }
+{
+    let size = disk.len()?;
+    let front = front_of(alloc, disk, FRONT.min(size) as usize)?;
+    Ok(is_other(size, &front))
+}
+
+/// What was opened; none where it isn't known as an image.
+fn if_image(opened: Result<Opened, NotOpened>) -> Result<Option<Opened>, NotOpened>
+    ensures { result ≡ if_image opened }
+{
+    match opened {
+        Ok(opened) => Ok(Some(opened)),
+        Err(NotOpened::Image(OpenFault::Image(ImageFault::Refused(Known::Other)))) => Ok(None),
+        Err(fault) => Err(fault),
+    }
 }
 
 /// Opens what may be an image: none where it is a resource fork, a container, or isn't known as an image.
@@ -132,14 +154,13 @@ pub fn open_image<D: StillDisk>(alloc: Global, disk: D) -> (D, Result<Option<Ope
     ensures { D.is_honest result.0 → Learns D.ForkDisk disk result.0 (OpensImage result.1) }
 {
     let mut disk = disk;
-    if holds_fork(alloc, &mut disk) {
+    let held = match holds_fork(alloc, &mut disk) {
+        Ok(held) => held,
+        Err(fault) => return (disk, Err(NotOpened::Image(OpenFault::Read(fault)))),
+    };
+    if held {
         return (disk, Ok(None));
     }
-    match open_path(alloc, disk, "") {
-        (disk, Ok(opened)) => (disk, Ok(Some(opened))),
-        (disk, Err(NotOpened::Image(OpenFault::Image(ImageFault::Refused(Known::Other))))) => {
-            (disk, Ok(None))
-        }
-        (disk, Err(fault)) => (disk, Err(fault)),
-    }
+    let (after, opened) = open_path(alloc, disk, "");
+    (after, if_image(opened))
 }
