@@ -41,7 +41,25 @@ pub enum Expected {
     Length,
     /// At most 255 bytes.
     PascalLength,
-    /// Fewer fields, names or types.
+    /// The number 1.
+    One,
+    /// `$$CountOf`: no other function is read.
+    CountOf,
+    /// A count in `byte`, `integer` or `longint`.
+    CountSize,
+    /// The array that is counted.
+    Counted,
+    /// A number that is always the same, or the end.
+    ArrayEnd,
+    /// A number or a fill.
+    BeforeKey,
+    /// A key that is always the same number.
+    KeyNumber,
+    /// A case.
+    Case,
+    /// What goes on to the last bit, only where the type ends.
+    Last,
+    /// Fewer fields and braces.
     Less,
     /// A type: four characters in single quotes.
     Kind,
@@ -75,7 +93,7 @@ impl fmt::Display for Expected {
             Expected::Number => write!(f, "a number is expected"),
             Expected::Field => write!(
                 f,
-                "a field is expected; arrays, switches and labels aren't read yet"
+                "a field is expected, as `integer;`; a label isn't read yet"
             ),
             Expected::Bits => write!(f, "from 1 to 32 bits are expected, as [7]"),
             Expected::Constant => write!(
@@ -87,7 +105,28 @@ impl fmt::Display for Expected {
             Expected::AlignUnit => write!(f, "byte, word or long is expected"),
             Expected::Length => write!(f, "fewer than 2^32 bits are expected"),
             Expected::PascalLength => write!(f, "at most 255 bytes are expected"),
-            Expected::Less => write!(f, "at most 300 fields, names or types are expected"),
+            Expected::One => write!(f, "1 is expected"),
+            Expected::CountOf => write!(f, "$$CountOf is expected; no other function is read yet"),
+            Expected::CountSize => write!(
+                f,
+                "a byte, an integer or a longint is expected for a count"
+            ),
+            Expected::Counted => write!(f, "the array that was counted is expected"),
+            Expected::ArrayEnd => write!(
+                f,
+                "a number that ends the array is expected, as `byte = 0;`"
+            ),
+            Expected::BeforeKey => write!(f, "a number or a fill is expected before a key"),
+            Expected::KeyNumber => write!(
+                f,
+                "a key with its number is expected, as `key byte = 4;`"
+            ),
+            Expected::Case => write!(f, "a case is expected"),
+            Expected::Last => write!(
+                f,
+                "what goes on to the end is expected only at the end of a type"
+            ),
+            Expected::Less => write!(f, "at most 300 fields, braces, names or types are expected"),
             Expected::Kind => write!(f, "a type of four characters is expected, as 'STR#'"),
             Expected::Id => write!(f, "an id from -32768 to 32767 is expected"),
             Expected::Type => write!(f, "`type` is expected, or the end"),

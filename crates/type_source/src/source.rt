@@ -59,10 +59,11 @@ fn left_of(lefts: &[usize], tokens: usize) -> usize {
 
 /// The types that a text declares, in the order of the text.
 ///
-/// A text has at most 1 MiB, and there are at most 300 fields of a type, names of a number, and types. What isn't read
-/// yet is refused: arrays, switches, functions, labels, texts that are always the same, backslashes in quotes, and what
-/// the preprocessor reads. It's proved that a text declares the types that are returned. That an error has the first
-/// place from which on the text declares none, is tested.
+/// A text has at most 1 MiB. At most 300 fields, cases and braces are in one another and one after the other, and at
+/// most 300 names and types one after the other. What isn't read yet is refused: functions other than `$$CountOf`,
+/// labels, texts that are always the same, backslashes in quotes, an array that isn't the next one to be counted, and
+/// what the preprocessor reads. It's proved that a text declares the types that are returned. That an error has the
+/// first place from which on the text declares none, is tested.
 pub fn types_of(alloc: Global, text: &[u8]) -> Result<Vec<DeclaredType>, SourceError>
     ensures { IfOk result (λ types. IsSource types.items text.now) }
 {
@@ -94,23 +95,41 @@ mod tests {
     /// Resources by Inside Macintosh's pictures of their bytes, and how many parts each has.
     const RESOURCES: &[(&[u8; 4], &[u8], usize)] = &[
         (b"STR ", b"\x02Hi", 1),
+        (b"STR#", b"\x00\x02\x02Hi\x00", 3),
         (b"TEXT", b"Read me", 1),
         (b"vers", b"\x07\x01\x80\x00\x00\x00\x037.1\x037.1", 7),
+        (b"MBAR", b"\x00\x01\x00\x80", 2),
+        (
+            b"MENU",
+            b"\x00\x80\x00\x00\x00\x00\x00\x00\x00\x00\xff\xff\xff\xff\x04File\x04Open\x00O\x00\x00\x00",
+            13,
+        ),
         (
             b"ALRT",
             b"\x00\x28\x00\x28\x00\xa0\x01\x90\x00\x80\x44\x44",
             18,
         ),
+        (
+            b"DITL",
+            b"\x00\x00\x00\x00\x00\x00\x00\x14\x00\x14\x00\x28\x00\x50\x04\x02OK",
+            8,
+        ),
+        (
+            b"BNDL",
+            b"TEST\x00\x00\x00\x00FREF\x00\x00\x00\x00\x00\x80",
+            7,
+        ),
         (b"FREF", b"APPL\x00\x00\x00", 3),
         (b"SIZE", b"\x58\x80\x00\x06\x00\x00\x00\x04\x00\x00", 18),
         (b"PAT ", b"\xaa\x55\xaa\x55\xaa\x55\xaa\x55", 1),
+        (b"TMPL", b"\x05CountOCNT", 3),
     ];
 
     #[test]
     fn built_in_types(rt: HostRuntime) -> Result<(), Fail> {
         let alloc = rt.alloc();
         let types = types_of(alloc, BUILT_IN)?;
-        assert_eq!(rt; types.len(), 18);
+        assert_eq!(rt; types.len(), 30);
         for (kind, bytes, parts) in RESOURCES {
             let declaration = meaning_of(&types, Kind(**kind), 128).ok_or("no type")?;
             let value = declaration.decode(alloc, bytes)?;
@@ -128,7 +147,7 @@ mod tests {
         (b"type 'ABC' { };", 1, 6),
         (b"/* no end", 1, 1),
         (b"type 'ABCD' { byte = 256; };", 1, 22),
-        (b"type 'ABCD' { integer = $$CountOf(A); };", 1, 25),
+        (b"type 'ABCD' { integer = $$ArrayIndex(A); };", 1, 25),
         (b"type 'ABCD' { string; byte; };", 1, 23),
         (b"\r\ntype 'ABCD' { pstring[256]; };", 2, 22),
     ];

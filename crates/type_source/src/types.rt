@@ -172,7 +172,7 @@ fn meaning_at<'s, 'a>(
         return Ok((Meaning::As(Other { kind, id }), rest));
     }
     let inner = mark_at(Mark::OpenBrace, tokens)?;
-    let (declaration, rest) = fields(alloc, MOST_PARTS, inner)?;
+    let (declaration, rest) = fields(alloc, MOST_PARTS, None, inner)?;
     let rest = mark_at(Mark::CloseBrace, rest)?;
     let rest = mark_at(Mark::Semicolon, rest)?;
     Ok((Meaning::Fields(declaration), rest))

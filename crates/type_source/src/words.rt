@@ -7,7 +7,7 @@ ghost use Rattle.type_source.specs.declared.token.Token.TheVariants as kinds;
 use crate::fault::{Expected, ReadError, refused};
 use crate::token::{Mark, Token};
 
-/// How many fields of a type, names of a number and types of a text there may be.
+/// How many fields and braces may be in one another and one after the other, and how many names and types.
 pub(crate) const MOST_PARTS: u32 = 300;
 
 /// One less of so many parts, if there is one.
