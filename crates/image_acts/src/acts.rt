@@ -1,7 +1,13 @@
 //! Images are opened and read, each act noted.
 
+ghost use Rattle.std.specs.Prelude.{◌≡◌, [], ◌∷◌, MatchResult};
+ghost use Rattle.fork_disk.specs.Files.{IsHonestIn};
 ghost use Rattle.file_acts.specs.Acts.{ReadsOnly};
 ghost use Rattle.file_acts.specs.Saved.{ShowsSaved};
+ghost use Rattle.file_acts.specs.declared.acts.Act.TheVariants as act;
+ghost use Rattle.image_acts.specs.Here.{here};
+ghost use Rattle.image_acts.specs.Shown.{OpensDisk, OpensNamed, OpensWord, ReadsNamed, ReadsPlace, some_opened};
+ghost use Rattle.image_acts.specs.Told.{IsFailed};
 ghost use Rattle.image_acts.specs.Words.{ReadsWord};
 
 use crate::problem::{of_opening, of_place, of_reading};
@@ -23,7 +29,9 @@ use std::alloc::AllocError;
 use std::fs;
 
 /// The disk of a file.
-fn open_file<W: World>(host: &Host<'_>, path: &str) -> Result<StillFile<W>, Problem> {
+fn open_file<W: World>(host: &Host<'_>, path: &str) -> Result<StillFile<W>, Problem>
+    ensures { MatchResult result (λ disk. disk.file.log.events ≡ []) IsFailed }
+{
     match fs::open(host.rt, path) {
         Ok(file) => Ok(StillFile::new(HostFile::new(file))),
         Err(error) => Err(Problem::Read(input::NotRead::Failed(error))),
@@ -32,6 +40,7 @@ fn open_file<W: World>(host: &Host<'_>, path: &str) -> Result<StillFile<W>, Prob
 
 /// Notes the calls that were made of an image.
 fn note_image<W: World>(acts: &mut Acts, image: &str, disk: StillFile<W>)
+    ensures noted { acts.new.events ≡ act.ReadParts image.now 0 disk.file.log.events ∷ acts.old.events }
     ensures quiet { ReadsOnly image.now acts.old.events acts.new.events }
     ensures seen { ShowsSaved acts.old.events acts.new.events }
 {
@@ -47,7 +56,8 @@ fn read_place<W: World>(
     place: ImagePlace<'_>,
     acts: &mut Acts,
 ) -> Result<Vec<u8>, Problem>
-    ensures quiet { ReadsOnly place.image.now acts.old.events acts.new.events }
+    ensures reads { ReadsPlace W.World place.entry.image.now place.entry.path.now host.now.limit result acts.old.events acts.new.events }
+    ensures quiet { ReadsOnly place.entry.image.now acts.old.events acts.new.events }
     ensures seen { ShowsSaved acts.old.events acts.new.events }
 {
     let disk = open_file::<W>(host, place.image)?;
@@ -62,6 +72,7 @@ fn read_place<W: World>(
 /// The bytes of the file of this name, or of the standard input, which `-` is; or, where there is no such file and the word is
 /// `IMAGE:PATH`, the file of this path in the image as the bytes of a MacBinary file.
 pub fn read<W: World>(host: &Host<'_>, word: &str, acts: &mut Acts) -> Result<Vec<u8>, Problem>
+    ensures reads { ReadsNamed W.World word.now host.now.limit result acts.old.events acts.new.events }
     ensures quiet { ReadsWord word.now acts.old.events acts.new.events }
     ensures seen { ShowsSaved acts.old.events acts.new.events }
 {
@@ -78,15 +89,12 @@ fn open_place<W: World>(
     place: ImagePlace<'_>,
     acts: &mut Acts,
 ) -> Result<Option<Opened>, Problem>
-    ensures quiet { ReadsOnly place.image.now acts.old.events acts.new.events }
+    ensures opens { OpensWord W.World word.now (here place.entry) result acts.old.events acts.new.events }
+    ensures quiet { ReadsOnly place.entry.image.now acts.old.events acts.new.events }
     ensures seen { ShowsSaved acts.old.events acts.new.events }
 {
     let disk = open_file::<W>(host, place.image)?;
-    let (disk, opened) = if word == place.image {
-        open_image(host.alloc(), disk)
-    } else {
-        some_opened(open_path(host.alloc(), disk, place.path))
-    };
+    let (disk, opened) = open_disk(host, word, place, disk);
     note_image(acts, place.image, disk);
     match opened {
         Ok(opened) => Ok(opened),
@@ -95,13 +103,30 @@ fn open_place<W: World>(
 }
 
 /// What was opened, which is there.
-fn some_opened<D>(
-    opened: (D, Result<Opened, NotOpened>),
-) -> (D, Result<Option<Opened>, NotOpened>) {
+fn some_opened(opened: Result<Opened, NotOpened>) -> Result<Option<Opened>, NotOpened>
+    ensures { result ≡ some_opened opened }
+{
     match opened {
-        (disk, Ok(opened)) => (disk, Ok(Some(opened))),
-        (disk, Err(fault)) => (disk, Err(fault)),
+        Ok(opened) => Ok(Some(opened)),
+        Err(fault) => Err(fault),
     }
+}
+
+/// Opens the image of a place, if the word names just that image: what it has, if it is one. Else what the path of the place
+/// names in it.
+fn open_disk<W: World>(
+    host: &Host<'_>,
+    word: &str,
+    place: ImagePlace<'_>,
+    disk: StillFile<W>,
+) -> (StillFile<W>, Result<Option<Opened>, NotOpened>)
+    ensures { IsHonestIn W.World result.0.file → OpensDisk word.now (here place.entry) result.1 (W.held 0 []) }
+{
+    if word == place.image {
+        return open_image(host.alloc(), disk);
+    }
+    let (disk, opened) = open_path(host.alloc(), disk, place.path);
+    (disk, some_opened(opened))
 }
 
 /// What a word names of an image, if it does.
@@ -110,6 +135,7 @@ fn opened_at<W: World>(
     word: &str,
     acts: &mut Acts,
 ) -> Result<Option<Opened>, Problem>
+    ensures opens { OpensNamed W.World word.now result acts.old.events acts.new.events }
     ensures quiet { ReadsWord word.now acts.old.events acts.new.events }
     ensures seen { ShowsSaved acts.old.events acts.new.events }
 {
