@@ -1,0 +1,9 @@
+pub mod Packed
+pub mod Dots
+pub mod Lines
+pub mod Palettes
+pub mod Regions
+pub mod Spans
+pub mod Painting
+pub mod Brushes
+pub mod Pictures

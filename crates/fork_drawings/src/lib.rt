@@ -1,0 +1,16 @@
+//! The dots of a picture in QuickDraw's language, a 'PICT' resource.
+#![tactic(auto)]
+
+mod brush;
+mod bytes;
+mod dots;
+mod drawing;
+pub mod fault;
+mod lines;
+mod packed;
+mod palette;
+pub mod picture;
+mod region;
+mod span;
+
+pub use picture::picture_of;
