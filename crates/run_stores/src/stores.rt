@@ -1,6 +1,7 @@
 //! The stores of a run.
 
 ghost use Rattle.std.specs.Prelude.{◌≡◌, ◌≤◌, ◌++◌, ◌∷◌, [], List, ℕ, Result, Ok, length, map, IfOk, IfErr, OnOk};
+ghost use Rattle.std.specs.Result.{result_map_both};
 ghost use Rattle.fork_disk.specs.Crash.{Finds};
 ghost use Rattle.run_stores.specs.Claiming.{AreNamed, Asking};
 ghost use Rattle.run_stores.specs.Refusing.{IsOpening};
@@ -217,12 +218,11 @@ pub fn plain_stores<'a, F: Drop, S: ForkStore, J: ForkStore, O: Opens<F, S, J>>(
     if paths.is_empty() {
         return one_in_memory(alloc, opener);
     }
-    let mut known = Vec::new(alloc);
-    let forks = match opened(alloc, opener, Naming::Repeated, paths, &mut known) {
-        Ok(forks) => forks,
+    let opened = match opened(alloc, opener, Naming::Repeated, paths) {
+        Ok(opened) => opened,
         Err(fault) => return Err(fault),
     };
-    stores_on(alloc, opener, forks)
+    stores_on(alloc, opener, opened.files)
 }
 
 /// One store in memory.
@@ -310,13 +310,13 @@ fn opened_pairs<'a, F: Drop, S: ForkStore, J: ForkStore, O: Opens<F, S, J>>(
     ensures count { IfOk result (λ pairs. length pairs.items ≡ length paths.now) }
     ensures none_closed { O.closed opener.new ≡ O.closed opener.old }
 {
-    let mut known = Vec::new(alloc);
-    let forks = match opened(alloc, opener, Naming::Once, paths, &mut known) {
-        Ok(forks) => forks,
+    let opened = match opened(alloc, opener, Naming::Once, paths) {
+        Ok(opened) => opened,
         Err(fault) => return Err(fault),
     };
+    let mut known = opened.known;
     let mut pairs = Vec::new(alloc);
-    for fork in forks {
+    for fork in opened.files {
         let name = journals[pairs.len()];
         let journal = match opener.open(name, Naming::Once, known.as_slice()) {
             Ok(journal) => journal,
@@ -346,35 +346,41 @@ fn push_both<T: Drop>(
     Ok(())
 }
 
+/// Files that were opened, and which files they are.
+#[derive(Drop)]
+struct KnownFiles<F> {
+    files: Vec<F>,
+    known: Vec<Found>,
+}
+
 /// The files of these paths, and which files they are.
 fn opened<'a, F: Drop, S: ForkStore, J: ForkStore, O: Opens<F, S, J>>(
     alloc: Global,
     opener: &mut O,
     naming: Naming,
     paths: &[&'a str],
-    known: &mut Vec<Found>,
-) -> Result<Vec<F>, NoStores<'a>>
-    requires { known.old.items ≡ [] }
+) -> Result<KnownFiles<F>, NoStores<'a>>
     ensures files { (openings : List (Opening F)) × (O.openings opener.new ≡ O.openings opener.old ++ openings)
-        × IsOpened O.asking naming (map (λ path. path.now) paths.now) openings (λ files. Asked (map (λ path. path.now) paths.now) (map Ok files) openings) result }
-    ensures count { IfOk result (λ files. length files.items ≡ length paths.now) }
-    ensures named { IfOk result (λ files. AreNamed O.asking naming [] (map (λ path. path.now) paths.now) files.items) }
-    ensures known { IfOk result (λ files. known.new.items ≡ map O.asking.id files.items) }
+        × IsOpened O.asking naming (map (λ path. path.now) paths.now) openings (λ files. Asked (map (λ path. path.now) paths.now) (map Ok files) openings) (result_map_both (λ opened. opened.files) (λ fault. fault) result) }
+    ensures count { IfOk result (λ opened. length opened.files.items ≡ length paths.now) }
+    ensures named { IfOk result (λ opened. AreNamed O.asking naming [] (map (λ path. path.now) paths.now) opened.files.items) }
+    ensures known { IfOk result (λ opened. opened.known.items ≡ map O.asking.id opened.files.items) }
     ensures none_closed { O.closed opener.new ≡ O.closed opener.old }
 {
     let mut files = Vec::new(alloc);
+    let mut known = Vec::new(alloc);
     for path in paths {
         let file = match opener.open(path, naming, known.as_slice()) {
             Ok(file) => file,
             Err(refusal) => return Err(NoStores::CannotOpen(path, refusal)),
         };
         let id = opener.id(&file);
-        match push_both(&mut files, file, known, id) {
+        match push_both(&mut files, file, &mut known, id) {
             Ok(()) => {}
             Err(_) => return Err(NoStores::HostFull),
         }
     }
-    Ok(files)
+    Ok(KnownFiles { files, known })
 }
 
 /// Closes these stores of forks alone, as they are.

@@ -21,7 +21,7 @@ loop-path-init g c = (
   sym (append-nil _),
   subst (λ (files : List g.row.F.Denot). Asked [] (map Ok files) []) (sym c.new-files.ensures.items) (record { paths_are = refl; files_are = refl }),
   subst (AreNamed g.O.Opens.asking c.args.naming [] []) (sym c.new-files.ensures.items) tt,
-  c.requires ∙ ap (map g.O.Opens.asking.id) (sym c.new-files.ensures.items),
+  c.new-known.ensures.items ∙ ap (map g.O.Opens.asking.id) (sym c.new-files.ensures.items),
   refl,
 )
 

@@ -45,7 +45,7 @@ loop-fork-init g c =
       refl,
       ap (map fork_of) (sym none),
       ap length (sym none),
-      given.1 ∙ c.in-Ok.forks.ok.0 ∙ ap length (sym given.0),
+      given.1 ∙ c.in-Ok.opened.files.ok.0 ∙ ap length (sym given.0),
       subst (λ (ps : List (g.row.F.Denot × g.row.F.Denot)). AreNamed g.O.Opens.asking Once [] (before ++ map now_of (take 0 names)) (items ++ map journal_of ps)) none
           (named_none g.O.Opens.asking Once before names now_of items named),
       c.in-Ok.ensures.known ∙ ap (map g.O.Opens.asking.id) (sym given.0 ∙ sym (append-nil items) ∙ ap (λ (ps : List (g.row.F.Denot × g.row.F.Denot)). items ++ map journal_of ps) none),

@@ -27,4 +27,4 @@ returns-clause-stores g c =
     let some : length c.args.paths.now ≢ 0 = grind (arith, nat_tests, is, so) in
     let opened = c.in-Ok.ensures.files in
     let on = c.stores_on.ensures in
-    (opened.0, opened.1, plain_opened g.O.Opens.asking g.S.ForkStore g.O.Opens.plain (map now_of c.args.paths.now) c.in-Ok.forks.items opened.0 (some_names now_of c.args.paths.now some) opened.2 c.stores_on.result on.stores on.full c.in-Ok.ensures.named)
+    (opened.0, opened.1, plain_opened g.O.Opens.asking g.S.ForkStore g.O.Opens.plain (map now_of c.args.paths.now) c.in-Ok.opened.files.items opened.0 (some_names now_of c.args.paths.now some) opened.2 c.stores_on.result on.stores on.full c.in-Ok.ensures.named)
