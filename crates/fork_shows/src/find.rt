@@ -1,7 +1,8 @@
 //! Resources that are found in files, and in the files below folders.
 
-ghost use Rattle.std.specs.Prelude.{◌≡◌, ◌≤◌};
-ghost use Rattle.file_acts.specs.Acts.{WritesNothing};
+ghost use Rattle.std.specs.Prelude.{◌≤◌};
+ghost use Rattle.file_acts.specs.Acts.{ReadsNothing, WritesNothing};
+ghost use Rattle.image_acts.specs.Words.{ReadsWord};
 
 use crate::several::{higher, write_lines};
 use file_acts::acts::{Acts, look_at};
@@ -11,6 +12,7 @@ use file_acts::host::Host;
 use file_acts::input::NotRead;
 use file_acts::message::{CANT_GO_ON, DONE, NOT_FOUND, Problem, finish};
 use fork_answer::NoFork;
+use fork_bytes::table::Row;
 use fork_disk::Unknown;
 use fork_find::{Sought, found_lines};
 use fork_report::Refusal;
@@ -29,7 +31,7 @@ struct Search {
     has_found: bool,
     /// The highest status of a problem, or 0.
     worst: u8,
-    ghost few: { worst ≤ CANT_GO_ON },
+    ghost few: { worst ≤ 4 },
 }
 
 impl Search {
@@ -69,21 +71,47 @@ impl Search {
     }
 }
 
-/// Writes a line for each resource of a file that is sought. The result says whether there is one.
+/// Writes a line for each of these resources of a file that is sought. The result says whether there is one.
+fn print_found(
+    host: &Host<'_>,
+    sought: &Sought,
+    file: &str,
+    rows: &[Row<'_>],
+    acts: &mut Acts,
+) -> Result<bool, Problem>
+    ensures quiet { ReadsNothing acts.old.events acts.new.events }
+{
+    let lines = found_lines(host.alloc(), sought, rows)?;
+    write_lines(host, Titles::BeforeLines, true, file, lines.as_bytes(), acts)?;
+    Ok(!lines.as_str().is_empty())
+}
+
+/// The same of the resources in the bytes of a file.
+fn find_in_bytes(
+    host: &Host<'_>,
+    sought: &Sought,
+    file: &str,
+    bytes: &[u8],
+    acts: &mut Acts,
+) -> Result<bool, Problem>
+    ensures quiet { ReadsNothing acts.old.events acts.new.events }
+{
+    let found = fork_found(host.alloc(), bytes)?;
+    let table = table_found(host.alloc(), &found, bytes)?;
+    print_found(host, sought, file, table.rows.as_slice(), acts)
+}
+
+/// The same of the file of this name.
 fn find_in_file(
     host: &Host<'_>,
     sought: &Sought,
     file: &str,
     acts: &mut Acts,
 ) -> Result<bool, Problem>
-    ensures quiet { WritesNothing acts.old.events acts.new.events }
+    ensures quiet { ReadsWord file.now acts.old.events acts.new.events }
 {
     let bytes = read::<Unknown>(host, file, acts)?;
-    let found = fork_found(host.alloc(), &bytes)?;
-    let table = table_found(host.alloc(), &found, &bytes)?;
-    let lines = found_lines(host.alloc(), sought, table.rows.as_slice())?;
-    write_lines(host, Titles::BeforeLines, true, file, lines.as_bytes(), acts)?;
-    Ok(!lines.as_str().is_empty())
+    find_in_bytes(host, sought, file, &bytes, acts)
 }
 
 /// Whether a file has no resources, for all that is known.
@@ -108,7 +136,7 @@ fn find_below(
     file: &str,
     acts: &mut Acts,
 ) -> Result<bool, Problem>
-    ensures quiet { WritesNothing acts.old.events acts.new.events }
+    ensures quiet { ReadsWord file.now acts.old.events acts.new.events }
 {
     match find_in_file(host, sought, file, acts) {
         Err(problem) if has_no_fork(&problem) => Ok(false),
