@@ -1,14 +1,14 @@
 -- Words that are cut at a colon, and what was asked of what is before it.
-use Rattle.std.proofs.Common.{◌≡◌, ◌≢◌, suc, ◌+◌, ◌∷◌, ◌++◌, ◌∙◌, ℕ, Bool, true, false, List, length, take, drop, slice_index, inr, sym, ap, subst, add-one}
+use Rattle.std.proofs.Common.{◌≡◌, ◌≢◌, suc, ◌+◌, ◌∷◌, ◌++◌, ◌∙◌, ℕ, Bool, true, false, List, take, drop, slice_index, inr, sym, ap, subst, add-one}
 use Rattle.std.specs.Prelude.{◌==◌}
 use Rattle.std.proofs.Math.Seq.{drop-cons}
 use Rattle.std.proofs.lemmas.Bool.{ne_eqb}
 use Rattle.std.proofs.lemmas.List.{take-append-drop}
-use Rattle.file_acts.specs.Acts.{Log, MayRead, OnlyReads, Paths, ReadsOnly}
+use Rattle.file_acts.specs.Acts.{Log, ReadsOnly}
 use Rattle.file_acts.specs.declared.acts.Act.TheVariants as act
 use Rattle.host_paths.specs.declared.host.Answer.{Answer}
 use Rattle.image_acts.specs.Places.{IsCutAt, NoneAt, NoneBefore, Place, is_file}
-use Rattle.image_acts.specs.Words.{IsNamedBy, MayReadWord, ReadsWord}
+use Rattle.image_acts.specs.Words.{IsNamedBy, ReadsWord}
 
 -- no colon is there
 pub none_here : (word : List ℕ) (at : ℕ) (old new : Log) → slice_index word at ≢ 58 → NoneBefore word at old new → NoneBefore word (at + 1) old new
