@@ -31,6 +31,7 @@ named_cut word at place cut = inr (drop (at + 1) word, whole)
   where
     rest : drop at word ≡ 58 ∷ drop (at + 1) word
     rest = rw add-one (drop-cons word at 0 cut.within ∙ ap (λ (n : ℕ). n ∷ drop (suc at) word) cut.colon)
+
     whole : word ≡ place.image ++ 58 ∷ drop (at + 1) word
     whole = sym (take-append-drop at word) ∙ ap (λ (tail : List ℕ). take at word ++ tail) rest ∙ ap (λ (image : List ℕ). image ++ 58 ∷ drop (at + 1) word) (sym cut.image)
 

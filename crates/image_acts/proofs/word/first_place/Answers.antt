@@ -26,22 +26,22 @@ loop-at-preserved c =
     let new = c.match-cut.acts.events in
     let so_far = c.loop-at.invariant in
     elim c.match-cut.branch [
-    | in-Some+else-is_file w ↦
-        let place = here w.in-Some.place in
-        let read = w.is_file.new.acts.events in
-        let same : read ≡ new = cc in
-        let cut = w.in-Some.ensures in
-        let asks = w.is_file.ensures.asks in
-        record {
+      | in-Some+else-is_file w ↦
+          let place = here w.in-Some.place in
+          let read = w.is_file.new.acts.events in
+          let same : read ≡ new = cc in
+          let cut = w.in-Some.ensures in
+          let asks = w.is_file.ensures.asks in
+          record {
             none = none_more word at place old mid new asks.0 cut so_far.none (sym same ∙ asks.1) (sym asks.2 ∙ w.if-is_file.false);
             quiet = reads_more word place.image old mid new (named_cut word at place cut) so_far.quiet (subst (λ (log : Log). ReadsOnly place.image mid log) same w.is_file.ensures.quiet);
             seen = λ before. subst (λ (log : Log). ShowsSaved mid log) same w.is_file.ensures.seen (so_far.seen before);
-        }
-    | in_default w ↦
-        let same : mid ≡ new = cc in
-        record {
+          }
+      | in_default w ↦
+          let same : mid ≡ new = cc in
+          record {
             none = subst (λ (log : Log). NoneBefore word (at + 1) old log) same (none_here word at old mid w.in_default.ensures so_far.none);
             quiet = subst (λ (log : Log). ReadsWord word old log) same so_far.quiet;
             seen = subst (λ (log : Log). ShowsSaved old log) same so_far.seen;
-        }
+          }
     ]
