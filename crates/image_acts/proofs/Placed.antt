@@ -54,4 +54,4 @@ opens_there {W} world word found place result old mid new is names opens =
 pub opens_none : {W : Type 0} (world : Ghosts W) (word : List ℕ) (found : Option ImagePlace) (old new : Log) → found ≡ None
     → NamesImage word (option_map here found) old new → OpensNamed world word (Ok None) old new
 opens_none {W} world word found old new is names =
-    (None, new, subst (λ (f : Option ImagePlace). NamesImage word (option_map here f) old new) is names, refl, refl)
+    (None, new, subst (λ (f : Option ImagePlace). NamesImage word (option_map here f) old new) is names, (refl, refl))
