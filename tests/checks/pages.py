@@ -23,7 +23,7 @@ LINES = {
     "README.md": 100,
     "docs/CONTRIBUTING.md": 60,
     "docs/DECISIONS.md": 60,
-    "docs/DESIGN.md": 204,
+    "docs/DESIGN.md": 205,
     "docs/DIFFERENCES.md": 88,
     "docs/EMULATORS.md": 125,
     "docs/FILES.md": 160,

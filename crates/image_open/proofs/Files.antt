@@ -15,8 +15,3 @@ reads_opened text file limit opened (Err (not_read.NotOpened why)) is states = a
 reads_opened text file limit opened (Err (not_read.NoFile other)) is states =
     (subst (λ (o : Opened). IsOpened text file o) (sym states.0) is, subst (λ (o : Opened). IsNoFile o.found) (sym states.0) states.1)
 reads_opened text file limit opened (Err (not_read.Refused refusal)) is states = (opened, states.0, record { opens = is; is = states.1 }, states.2)
-
--- a file that is no fork is opened
-pub is_tried : (file : List ℕ) (held : Bool) (opened : Result Opened NotOpened) (result : Result (Option Opened) NotOpened) → held ≡ false → held ≡ holds_fork file → OpensAt [] opened file
-    → result ≡ if_image opened → OpensImage result file
-is_tried file held opened result none is opens same = inr (inl (opened, record { other = sym is ∙ none; opens = opens; same = same }))
