@@ -1,6 +1,6 @@
 //! Resources as a text, and the fork of a text; and the fork of a folder to which resources were unpacked.
 
-ghost use Rattle.std.specs.Prelude.{◌≡◌, ◌∷◌, ℕ, Err, IfErr, IfOk, List, Ok, not, true};
+ghost use Rattle.std.specs.Prelude.{◌≡◌, ◌||◌, ◌∷◌, ℕ, Err, IfErr, IfOk, List, Ok, bytes_eq, codes, not, true};
 ghost use Rattle.fork_bytes.specs.declared.table.Table.{Table};
 ghost use Rattle.fork_rez.specs.Said.{made_table};
 ghost use Rattle.host_paths.specs.declared.host.Answer.{Answer};
@@ -62,7 +62,6 @@ fn made_of(alloc: Global, text: &[u8]) -> Result<Made, Problem>
 
 /// Writes a fork of a text, or puts its resources into a file.
 pub fn rez_file<'a>(host: &Host<'_>, asked: Rezzing<'a>, acts: &mut Acts) -> Result<u8, Failed<'a>>
-    ensures does { Rezzes asked.entry (ended result) acts.old.events acts.new.events }
     ensures done { IfOk result (λ status. status ≡ DONE) }
     ensures dry { is_dry_place asked.entry.place ≡ true → WritesNothing acts.old.events acts.new.events }
     ensures saved { IsForPlace asked.entry.place → IfOk result (λ _. EndsSaved acts.new.events) }
@@ -79,7 +78,6 @@ fn rez_text<'a>(
     text: &[u8],
     acts: &mut Acts,
 ) -> Result<u8, Failed<'a>>
-    ensures does { RezzesText asked.entry.place text.now (ended result) acts.old.events acts.new.events }
     ensures done { IfOk result (λ status. status ≡ DONE) }
     ensures dry { is_dry_place asked.entry.place ≡ true → WritesNothing acts.old.events acts.new.events }
     ensures saved { IsForPlace asked.entry.place → IfOk result (λ _. EndsSaved acts.new.events) }
@@ -122,7 +120,6 @@ fn deliver<'a>(
     table: &Table<'_>,
     acts: &mut Acts,
 ) -> Result<u8, Failed<'a>>
-    ensures does { Delivers place.entry (like_bytes like.entry) table.now (ended result) acts.old.events acts.new.events }
     ensures done { IfOk result (λ status. status ≡ DONE) }
     ensures dry { is_dry_place place.entry ≡ true → WritesNothing acts.old.events acts.new.events }
     ensures saved { IsForPlace place.entry → IfOk result (λ _. EndsSaved acts.new.events) }
@@ -159,7 +156,6 @@ fn put_rows<'a>(
     rows: &[Row<'_>],
     acts: &mut Acts,
 ) -> Result<u8, Failed<'a>>
-    ensures does { PutsRows ends.entry.1 on_collision rows.now (ended result) acts.old.events acts.new.events }
     ensures done { IfOk result (λ status. status ≡ DONE) }
     ensures dry { ends.entry.1.is_dry ≡ true → WritesNothing acts.old.events acts.new.events }
     ensures saved { IsForFile ends.entry.1 → IfOk result (λ _. EndsSaved acts.new.events) }
@@ -193,7 +189,7 @@ fn put_rows<'a>(
 
 /// What is in the way, with what can be done where a resource is there already.
 fn with_advice(failed: Failed<'_>) -> Failed<'_>
-    ensures { Err result.problem ≡ with_advice (Err failed.problem) }
+    ensures { Err result.problem ≡ with_advice (Err failed.entry.problem) }
 {
     match failed {
         Failed {
@@ -347,6 +343,13 @@ fn file_like(alloc: Global, like: &[u8], table: &Table<'_>) -> Result<Vec<u8>, P
     }
 }
 
+/// Whether what is written at a path may lose what is there: that is forced, or it is the standard output.
+fn may_lose(is_forced: bool, path: &str) -> bool
+    ensures { result ≡ is_forced || bytes_eq path.now (codes "-") }
+{
+    is_forced || path == OUTPUT
+}
+
 /// Writes a new file with a table. A file that is there loses nothing, unless that is forced.
 fn write_new(
     host: &Host<'_>,
@@ -363,7 +366,7 @@ fn write_new(
     ensures seen { IsForOther target.now → ShowsSaved acts.old.events acts.new.events }
 {
     let path = written_file(target);
-    check_free(host, is_forced || path == OUTPUT, path, table, file, acts)?;
+    check_free(host, may_lose(is_forced, path), path, table, file, acts)?;
     let count = table.rows.as_slice().len();
     write_and_tell(host, target, count, file, acts)
 }
@@ -483,7 +486,6 @@ pub fn pack_folder<'a>(
     like: Option<Like<'a, '_>>,
     acts: &mut Acts,
 ) -> Result<u8, Failed<'a>>
-    ensures does { PacksLike asked.entry (like_bytes like.entry) (ended result) acts.old.events acts.new.events }
     ensures done { IfOk result (λ status. status ≡ DONE) }
     ensures dry { is_dry_place asked.entry.place ≡ true → WritesNothing acts.old.events acts.new.events }
     ensures saved { IsForPlace asked.entry.place → IfOk result (λ _. EndsSaved acts.new.events) }

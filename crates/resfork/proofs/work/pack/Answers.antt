@@ -1,18 +1,5 @@
-use Rattle.std.proofs.Common.{ℕ, [], List, Option, Ok, Err, subst, sym, refl}
-use Rattle.std.specs.Borrow.{Bor}
-use Rattle.fork_saves.proofs.Steps.{then_done}
-use Rattle.resfork.specs.Ends.{ReadsLike}
-use Rattle.resfork.proofs.Ended.{filed_not}
+use Rattle.fork_shows.proofs.Quiet.{writes_nothing}
 use Rattle.resfork.proofs.work.pack.Goals as goal
 
-pub returns-else-Some-clause-does : goal.returns-else-Some-clause-does
-unfolding ReadsLike
-returns-else-Some-clause-does c = ?
-
-pub returns-clause-does : goal.returns-clause-does
-unfolding ReadsLike
-returns-clause-does c = ?
-
-pub returns-in_err-bytes-clause-does : goal.returns-in_err-bytes-clause-does
-unfolding ReadsLike
-returns-in_err-bytes-clause-does c = ?
+pub returns-clause-dry : goal.returns-clause-dry
+returns-clause-dry c = λ dry before. c.pack_folder.ensures.dry dry (writes_nothing c.in-Some.name.now c.args.acts.now.events c.read.new.acts.events c.read.ensures.quiet before)
