@@ -12,7 +12,7 @@ use file_acts::acts::Acts;
 use file_acts::found::{fork_found, table_found};
 use file_acts::host::Host;
 use file_acts::input::read;
-use file_acts::message::Problem;
+use file_acts::message::{DONE, Problem};
 use fork_bytes::table::Row;
 use fork_change::{Choice, Collision};
 use fork_disk::Unknown;

@@ -1,4 +1,4 @@
-use Rattle.std.proofs.Common.{refl}
+use Rattle.std.proofs.Common.{Err, refl}
 use Rattle.fork_saves.specs.Saving.{EndsSaved}
 use Rattle.fork_saves.proofs.Steps.{then_done}
 use Rattle.resfork.specs.Ends.{PutsLinesIn}
@@ -12,7 +12,7 @@ returns-clause-does c = then_done _ _ c.in_ok-changed.changed.items c.args.acts.
 
 pub returns-in_err-changed-clause-does : goal.returns-in_err-changed-clause-does
 unfolding PutsLinesIn
-returns-in_err-changed-clause-does c = ?
+returns-in_err-changed-clause-does c = filed_not _ _ c.from_residual.result c.in_err-changed.field-0.0 (Err c.in_err-changed.field-0.0.problem) _ _ c.from_residual.ensures.1 refl (rw c.bytes.ensures at c.in_err-changed.ensures.none, refl)
 
 pub returns-clause-saved : goal.returns-clause-saved
 returns-clause-saved c = λ for read. let new = c.put_rows.new.acts.events in

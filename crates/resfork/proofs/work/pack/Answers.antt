@@ -1,7 +1,7 @@
-use Rattle.std.proofs.Common.{ℕ, [], List, Option, Ok, Err, subst, sym, refl}
+use Rattle.std.proofs.Common.{ℕ, [], List, Option, Ok, Err, inr, subst, sym, refl}
 use Rattle.std.specs.Borrow.{Bor}
 use Rattle.fork_saves.proofs.Steps.{then_done}
-use Rattle.resfork.specs.Ends.{ReadsLike}
+use Rattle.resfork.specs.Ends.{PacksLike, ReadsLike}
 use Rattle.resfork.proofs.Ended.{filed_not}
 use Rattle.resfork.proofs.work.pack.Goals as goal
 
