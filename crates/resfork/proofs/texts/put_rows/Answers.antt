@@ -5,7 +5,7 @@ use Rattle.resfork.proofs.texts.put_rows.Goals as goal
 
 pub returns-clause-does : goal.returns-clause-does
 unfolding PutsRowsIn
-returns-clause-does c = ?
+returns-clause-does c = inl (?, refl, rw c.rows_of.ensures at (rw c.as_slice.ensures.value at c.change_source.ensures.does))
 
 pub returns-in_err-rows-clause-does : goal.returns-in_err-rows-clause-does
 unfolding PutsRowsIn
