@@ -1,45 +1,27 @@
--- What each command does that changes files, act by act, and how it ends.
+-- What commands do that copy resources, or make a fork of a text or a folder, act by act.
 use Rattle.std.specs.Borrow.{Bor}
 use Rattle.std.specs.List.{filter, find}
-use Rattle.std.specs.Option.{option_map_or}
-use Rattle.std.specs.Prelude.{◌≡◌, ◌⊎◌, ◌||◌, ℕ, Bool, true, false, List, [], ◌∷◌, Option, None, Some, is_some, Result, Ok, Err, Vec, ⊤, bytes_eq, codes, map}
+use Rattle.std.specs.Prelude.{◌≡◌, ◌⊎◌, ◌||◌, ℕ, Bool, true, false, List, [], ◌∷◌, Option, None, Some, is_some, Result, Ok, Err, Vec, ⊤, bytes_eq, codes}
 use Rattle.std.specs.Global.{Global}
 use Rattle.host_paths.specs.declared.host.Answer.{Answer}
 use Rattle.host_paths.specs.declared.host.Answer.TheVariants as answers
 use Rattle.fork_bytes.specs.Rows.{Row}
 use Rattle.fork_bytes.specs.declared.table.Table.{Table}
-use Rattle.fork_answer.specs.Answer.{IsTableOf}
-use Rattle.fork_answer.specs.Source.{IsForkIn}
 use Rattle.fork_change.specs.Copies.{is_chosen, is_unmet, second_of}
 use Rattle.fork_change.specs.declared.copying.Choice.{Choice}
 use Rattle.fork_change.specs.declared.copying.Choice.TheVariants as choices
 use Rattle.fork_change.specs.declared.copying.Collision.{Collision}
-use Rattle.fork_change.specs.declared.copying.Collision.TheVariants as collision
 use Rattle.fork_change.specs.declared.refusal.Refusal.TheVariants as refusal
-use Rattle.fork_change.specs.declared.row.ResourceId.{ResourceId}
 use Rattle.fork_edit.specs.declared.edit.Edit.{Edit}
 use Rattle.fork_edit.specs.declared.edit.Edit.TheVariants as edits
-use Rattle.fork_words.specs.declared.work.Conversion.{Conversion}
-use Rattle.fork_words.specs.declared.work.Copying.{Copying}
-use Rattle.fork_words.specs.declared.work.Putting.{Putting}
-use Rattle.fork_words.specs.declared.work.Removing.{Removing}
-use Rattle.fork_words.specs.declared.work.Setting.{Setting}
-use Rattle.fork_words.specs.declared.texts.PuttingTexts.{PuttingTexts}
 use Rattle.fork_words.specs.declared.work.Target.{Target}
 use Rattle.file_acts.specs.Acts.{Finds, Log, Reads, ReadsOther, Then, WritesNothing}
-use Rattle.file_acts.specs.Problems.{IsForkRefused, LacksFork}
 use Rattle.file_acts.specs.declared.acts.Act.TheVariants as act
 use Rattle.file_acts.specs.declared.message.Problem.{Problem}
 use Rattle.file_acts.specs.declared.message.Problem.TheVariants as problem
 use Rattle.image_acts.specs.Words.{ReadsWord}
-use Rattle.fork_saves.specs.Changing.{Changes, ChangesSource, Creates, OpensSource, WritesTo, goes_to, source_bytes, written_file}
-use Rattle.fork_saves.specs.Converting.{Converts, SaysSome}
-use Rattle.fork_saves.specs.declared.source.Source.{Source}
-use Rattle.fork_list.specs.Roman.{roman_text}
-use Rattle.fork_texts.specs.Kinds.{known, seen}
-use Rattle.fork_texts.specs.Tables.{PutsText, Refuses}
-use Rattle.fork_texts.specs.declared.kinds.TextType.{TextType}
-use Rattle.std.specs.Str.{is_utf8}
+use Rattle.fork_saves.specs.Changing.{Changes, WritesTo, goes_to, written_file}
+use Rattle.fork_saves.specs.Converting.{SaysSome}
 use Rattle.fork_edit.specs.Files.{HasTable, Refuses as RefusesTable}
 use Rattle.fork_edit.specs.Replaced.{IsLost}
 use Rattle.fork_edit.specs.declared.replaced.Lost.TheVariants as losses
@@ -49,12 +31,8 @@ use Rattle.fork_words.specs.declared.work.Packing.{Packing}
 use Rattle.fork_words.specs.declared.work.Place.{Place}
 use Rattle.fork_words.specs.declared.work.Place.TheVariants as places
 use Rattle.fork_words.specs.declared.work.Rezzing.{Rezzing}
-use Rattle.fork_words.specs.declared.work.Work.{Work}
-use Rattle.fork_words.specs.declared.work.Work.TheVariants as work
 use Rattle.host_paths.specs.Asked.{is_regular}
 use Rattle.mac_files.specs.Kinds.{is_alone, kind_of}
-use Rattle.file_acts.specs.Statuses.{status_after}
-use Rattle.resfork.specs.Running.{ReadsWork}
 use Rattle.resfork.specs.declared.rez.Like.{Like}
 use Rattle.fork_shows.specs.declared.failed.Failed.{Failed}
 
@@ -69,52 +47,11 @@ ended (Err failed) = Err failed.problem
 abbrev pub ChecksPlace : List ℕ → Result ⊤ Problem → Log → Log → Type 0
 ChecksPlace word result = ReadsWord word
 
--- the file was read that a word names, which may be in a disk image
-abbrev pub ReadsNamed : List ℕ → Result (Vec ℕ Global) Problem → Log → Log → Type 0
-ReadsNamed word result = ReadsWord word
-
--- the rows of the resource fork in a file; or what is reported where it has none, or a damaged one
-abbrev pub IsRowsIn : List ℕ → Result (List Row) Problem → Type 0
-IsRowsIn file (Ok rows) = (fork : List ℕ) × (table : Table) × IsForkIn file fork × IsTableOf fork table × (rows ≡ table.rows)
-IsRowsIn file (Err told) = LacksFork file told ⊎ ((fork : List ℕ) × IsForkIn file fork × IsForkRefused file fork told)
-
 -- rm, set and put.
 
 -- a file that is in no disk image was changed
 unfoldable pub ChangesOutside : Target → List Row → Edit → Result ℕ Problem → Log → Log → Type 0
 ChangesOutside target from edit = Then {T = ⊤} (ChecksPlace target.file.now) (λ _. Changes target from edit)
-
-abbrev pub Removes : Removing → Result ℕ Problem → Log → Log → Type 0
-Removes asked result old new = (whats : Bor (List ResourceId)) × (whats.now ≡ asked.whats.items) × ChangesOutside asked.target [] (edits.Remove whats) result old new
-
-abbrev pub Sets : Setting → Result ℕ Problem → Log → Log → Type 0
-Sets asked = ChangesOutside asked.target [] (edits.Set asked.what asked.change)
-
--- by what a path leads to: the file there was changed, or one was made where nothing is and it may be
-unfoldable pub PutsAt : Answer → Bool → Target → Edit → Result ℕ Problem → Log → Log → Type 0
-PutsAt answers.Nothing true target edit = Creates target [] edit
-PutsAt answers.Nothing false target edit = Finds (λ end. end ≡ Err problem.NoFile)
-PutsAt (answers.Is found) creates target edit = Changes target [] edit
-PutsAt (answers.Failed why) creates target edit = Changes target [] edit
-
--- it was asked what the path leads to; not of the standard input
-unfoldable pub PutsIf : Bool → Bool → Target → Edit → Result ℕ Problem → Log → Log → Type 0
-PutsIf true creates target edit result old new = Changes target [] edit result old new
-PutsIf false creates target edit result old new = (answer : Answer) × PutsAt answer creates target edit result (act.Asked target.file.now answer ∷ old) new
-
-unfoldable pub PutsInto : Target → Bool → Edit → Result ℕ Problem → Log → Log → Type 0
-PutsInto target creates edit = Then {T = ⊤} (ChecksPlace target.file.now) (λ _. PutsIf (bytes_eq target.file.now (codes "-")) creates target edit)
-
--- these bytes were put
-unfoldable pub PutsBytes : Putting → List ℕ → Result ℕ Problem → Log → Log → Type 0
-PutsBytes asked bytes result old new = (lent : Bor (List ℕ)) × (lent.now ≡ bytes) × PutsInto asked.target asked.creates (edits.Put asked.change lent asked.is_new) result old new
-
--- the file with the bytes, or the standard input
-abbrev pub input_of : Putting → List ℕ
-input_of asked = option_map_or (λ path. path.now) asked.input (codes "-")
-
-abbrev pub Puts : Putting → Result ℕ Problem → Log → Log → Type 0
-Puts asked = Then (Reads (input_of asked)) (λ bytes. PutsBytes asked bytes.items)
 
 -- cp.
 
@@ -138,50 +75,6 @@ CopiesChosen target chosen how rows result old new = (lent : Bor (List Choice)) 
 -- the same, if they can be
 unfoldable pub CopiesRows : Target → List Choice → Collision → List Row → Result ℕ Problem → Log → Log → Type 0
 CopiesRows target chosen how rows = Then {T = ⊤} (Finds (CanCopy chosen rows)) (λ _. CopiesChosen target chosen how rows)
-
--- rows of a file with these bytes were copied
-unfoldable pub CopiesIn : Copying → List ℕ → Result ℕ Problem → Log → Log → Type 0
-CopiesIn asked file = Then (Finds (IsRowsIn file)) (CopiesRows asked.target asked.chosen.items asked.on_collision)
-
-abbrev pub Copies : Copying → Result ℕ Problem → Log → Log → Type 0
-Copies asked = Then (ReadsNamed asked.from.now) (λ bytes. CopiesIn asked bytes.items)
-
--- convert.
-
-abbrev pub ConvertsFile : Conversion → Result ℕ Problem → Log → Log → Type 0
-ConvertsFile asked = Then (ReadsNamed asked.target.file.now) (λ bytes. Converts asked bytes.items)
-
--- texts --put.
-
--- the rows that change where these lines take the place of the texts of rows; or what is reported
-abbrev pub ArePut : List ℕ → List Row → Result (List Row) Problem → Type 0
-ArePut lines rows (Ok changed) = (types : List TextType) × (text : List ℕ) × (map seen types ≡ known) × (lines ≡ roman_text text) × PutsText types rows text changed
-ArePut lines rows (Err (problem.Texts fault)) = (types : List TextType) × (map seen types ≡ known) × Refuses types rows lines fault
-ArePut lines rows (Err (problem.NoText shown)) = is_utf8 lines ≡ false
-ArePut lines rows (Err problem.HostFull) = ⊤
-ArePut lines rows (Err other) = ⊥
-
--- the same of the rows of a file, of which no two have one type and id
-abbrev pub IsRowsPut : List ℕ → List ℕ → Result (List Row) Problem → Type 0
-IsRowsPut lines file (Ok changed) = (rows : List Row) × IsRowsIn file (Ok rows) × CanCopy (choices.All ∷ []) rows (Ok tt) × ArePut lines rows (Ok changed)
-IsRowsPut lines file (Err told) = IsRowsIn file (Err told)
-    ⊎ ((rows : List Row) × IsRowsIn file (Ok rows) × (CanCopy (choices.All ∷ []) rows (Err told) ⊎ ArePut lines rows (Err told)))
-
--- rows take the place of those with their types and ids, unless the host has no memory
-unfoldable pub PutsRowsIn : Target → Source → List Row → Result ℕ Problem → Log → Log → Type 0
-PutsRowsIn target source rows result old new = ((lent : Bor (List Choice)) × (lent.now ≡ choices.All ∷ []) × ChangesSource target source rows (edits.Copy lent collision.Replace) result old new)
-    ⊎ ((result ≡ Err problem.HostFull) × (new ≡ old))
-
--- lines take the place of the texts of a file that was opened: by the bytes that were read of it, which are changed
-unfoldable pub PutsLinesIn : Target → List ℕ → Source → Result ℕ Problem → Log → Log → Type 0
-PutsLinesIn target lines source = Then (Finds (IsRowsPut lines (source_bytes source))) (PutsRowsIn target source)
-
--- a file that is in no disk image was opened, once, and lines take the place of its texts
-unfoldable pub PutsLines : Target → List ℕ → Result ℕ Problem → Log → Log → Type 0
-PutsLines target lines = Then {T = ⊤} (ChecksPlace target.file.now) (λ _. Then (OpensSource target) (PutsLinesIn target lines))
-
-abbrev pub PutsTexts : PuttingTexts → Result ℕ Problem → Log → Log → Type 0
-PutsTexts asked = Then (Reads asked.lines.now) (λ lines. PutsLines asked.target lines.items)
 
 -- rez and pack.
 
@@ -266,33 +159,5 @@ Rezzes asked = Then (Reads asked.text.now) (λ text. RezzesText asked.place text
 abbrev pub ReadsFolder : List ℕ → Result Table Problem → Log → Log → Type 0
 ReadsFolder folder result = WritesNothing
 
--- the file was read that the new one is to be like, if one is named
-unfoldable pub ReadsLike : Option (Bor (List ℕ)) → Result (List ℕ) Problem → Log → Log → Type 0
-ReadsLike None = Finds (λ end. end ≡ Ok [])
-ReadsLike (Some word) = Then (ReadsNamed word.now) (λ bytes. Finds (λ end. end ≡ Ok bytes.items))
-
 unfoldable pub PacksLike : Packing → List ℕ → Result ℕ Problem → Log → Log → Type 0
 PacksLike asked like = Then (ReadsFolder asked.folder.now) (Delivers asked.place like)
-
-abbrev pub Packs : Packing → Result ℕ Problem → Log → Log → Type 0
-Packs asked = Then (ReadsLike asked.like) (PacksLike asked)
-
--- Each command.
-
--- what a command does that changes files; others only read
-abbrev pub DoesWork : Work → Result ℕ Problem → Log → Log → Type 0
-DoesWork (work.Put asked) result = Puts asked result
-DoesWork (work.Remove asked) result = Removes asked result
-DoesWork (work.Set asked) result = Sets asked result
-DoesWork (work.Copy asked) result = Copies asked result
-DoesWork (work.Rez asked) result = Rezzes asked result
-DoesWork (work.Pack asked) result = Packs asked result
-DoesWork (work.Convert asked) result = ConvertsFile asked result
-DoesWork (work.PutTexts asked) result = PutsTexts asked result
-DoesWork (work.Compare asked) result = ReadsWork (work.Compare asked)
-DoesWork (work.Derez asked) result = ReadsWork (work.Derez asked)
-DoesWork (work.Texts file) result = ReadsWork (work.Texts file)
-
--- and the status with which it ends
-abbrev pub EndsWork : Work → ℕ → Log → Log → Type 0
-EndsWork what status old new = (end : Result ℕ Problem) × (status ≡ status_after end) × DoesWork what end old new

@@ -1,14 +1,14 @@
 //! What the commands do that change files.
 
 ghost use Rattle.std.specs.List.{find};
-ghost use Rattle.std.specs.Prelude.{◌≡◌, ◌≤◌, IfOk, bytes_eq, codes, option_map, true};
+ghost use Rattle.std.specs.Prelude.{◌≡◌, ◌≤◌, IfOk, option_map, true};
 ghost use Rattle.fork_change.specs.Copies.{is_unmet};
 ghost use Rattle.file_acts.specs.Acts.{WritesNothing};
 ghost use Rattle.resfork.specs.Faults.{file_at_fault};
 ghost use Rattle.file_acts.specs.Saved.{ShowsSaved};
 ghost use Rattle.fork_saves.specs.Saving.{EndsSaved};
 ghost use Rattle.fork_saves.specs.Changing.{IsForFile, IsForNew};
-ghost use Rattle.resfork.specs.Ends.{CanCopy, ChangesOutside, ConvertsFile, Copies, CopiesChosen, CopiesIn, CopiesRows, DoesWork, EndsWork, Packs, Puts, PutsBytes, PutsIf, PutsInto, Removes, Sets, ended, unmet_why};
+ghost use Rattle.resfork.specs.Ends.{CanCopy, ChangesOutside, CopiesChosen, CopiesRows, ended, unmet_why};
 ghost use Rattle.resfork.specs.Running.{ChangesFiles, IsForPlace, ReadsWork, is_dry_place, writes_nothing};
 
 use crate::rez::{Like, pack_folder, rez_file};
@@ -36,7 +36,6 @@ use std::alloc::Global;
 
 /// Does what is asked for. The result is the exit status.
 pub fn run_work(host: &Host<'_>, work: Work<'_>, acts: &mut Acts) -> u8
-    ensures does { EndsWork work.entry result acts.old.events acts.new.events }
     ensures few { result ≤ CANT_GO_ON }
     ensures quiet { writes_nothing work.entry ≡ true → ReadsWork work.entry acts.old.events acts.new.events }
     ensures saved { ChangesFiles work.entry → result ≡ DONE → EndsSaved acts.new.events }
@@ -50,7 +49,6 @@ pub fn run_work(host: &Host<'_>, work: Work<'_>, acts: &mut Acts) -> u8
 
 /// Does what is asked for. The result is the exit status, or which file is in the way.
 fn try_work<'a>(host: &Host<'_>, work: Work<'a>, acts: &mut Acts) -> Result<u8, Failed<'a>>
-    ensures does { DoesWork work.entry (ended result) acts.old.events acts.new.events }
     ensures few { IfOk result (λ status. status ≤ NOT_FOUND) }
     ensures quiet { writes_nothing work.entry ≡ true → ReadsWork work.entry acts.old.events acts.new.events }
     ensures saved { ChangesFiles work.entry → IfOk result (λ _. EndsSaved acts.new.events) }
@@ -76,7 +74,6 @@ fn try_work<'a>(host: &Host<'_>, work: Work<'a>, acts: &mut Acts) -> Result<u8, 
 
 /// Puts bytes in the place of a resource's, or adds it.
 fn put<'a>(host: &Host<'_>, asked: Putting<'a>, acts: &mut Acts) -> Result<u8, Failed<'a>>
-    ensures does { Puts asked.entry (ended result) acts.old.events acts.new.events }
     ensures done { IfOk result (λ status. status ≡ DONE) }
     ensures dry { asked.entry.target.is_dry ≡ true → WritesNothing acts.old.events acts.new.events }
     ensures saved { IsForFile asked.entry.target → IfOk result (λ _. EndsSaved acts.new.events) }
@@ -94,7 +91,6 @@ fn put_bytes(
     bytes: &[u8],
     acts: &mut Acts,
 ) -> Result<u8, Problem>
-    ensures does { PutsBytes asked.entry bytes.now result acts.old.events acts.new.events }
     ensures done { IfOk result (λ status. status ≡ DONE) }
     ensures dry { asked.entry.target.is_dry ≡ true → WritesNothing acts.old.events acts.new.events }
     ensures saved { IsForFile asked.entry.target → IfOk result (λ _. EndsSaved acts.new.events) }
@@ -110,7 +106,6 @@ fn put_bytes(
 
 /// Removes resources.
 fn remove<'a>(host: &Host<'_>, asked: &Removing<'a>, acts: &mut Acts) -> Result<u8, Failed<'a>>
-    ensures does { Removes asked.now (ended result) acts.old.events acts.new.events }
     ensures done { IfOk result (λ status. status ≡ DONE) }
     ensures dry { asked.now.target.is_dry ≡ true → WritesNothing acts.old.events acts.new.events }
     ensures saved { IsForFile asked.now.target → IfOk result (λ _. EndsSaved acts.new.events) }
@@ -125,7 +120,6 @@ fn remove<'a>(host: &Host<'_>, asked: &Removing<'a>, acts: &mut Acts) -> Result<
 
 /// Changes all of a resource but its bytes.
 fn set<'a>(host: &Host<'_>, asked: Setting<'a>, acts: &mut Acts) -> Result<u8, Failed<'a>>
-    ensures does { Sets asked.entry (ended result) acts.old.events acts.new.events }
     ensures done { IfOk result (λ status. status ≡ DONE) }
     ensures dry { asked.entry.target.is_dry ≡ true → WritesNothing acts.old.events acts.new.events }
     ensures saved { IsForFile asked.entry.target → IfOk result (λ _. EndsSaved acts.new.events) }
@@ -141,7 +135,6 @@ fn set<'a>(host: &Host<'_>, asked: Setting<'a>, acts: &mut Acts) -> Result<u8, F
 
 /// Copies resources of a file to another.
 fn copy_from<'a>(host: &Host<'_>, asked: &Copying<'a>, acts: &mut Acts) -> Result<u8, Failed<'a>>
-    ensures does { Copies asked.now (ended result) acts.old.events acts.new.events }
     ensures done { IfOk result (λ status. status ≡ DONE) }
     ensures dry { asked.now.target.is_dry ≡ true → WritesNothing acts.old.events acts.new.events }
     ensures saved { IsForFile asked.now.target → IfOk result (λ _. EndsSaved acts.new.events) }
@@ -159,7 +152,6 @@ fn copy_in<'a>(
     bytes: &[u8],
     acts: &mut Acts,
 ) -> Result<u8, Failed<'a>>
-    ensures does { CopiesIn asked.now bytes.now (ended result) acts.old.events acts.new.events }
     ensures done { IfOk result (λ status. status ≡ DONE) }
     ensures dry { asked.now.target.is_dry ≡ true → WritesNothing acts.old.events acts.new.events }
     ensures saved { IsForFile asked.now.target → IfOk result (λ _. EndsSaved acts.new.events) }
@@ -238,7 +230,6 @@ pub fn can_copy(alloc: Global, chosen: &[Choice], rows: &[Row<'_>]) -> Result<()
 
 /// Writes a file in another container.
 fn convert_file(host: &Host<'_>, asked: &Conversion<'_>, acts: &mut Acts) -> Result<u8, Problem>
-    ensures does { ConvertsFile asked.now result acts.old.events acts.new.events }
     ensures done { IfOk result (λ status. status ≡ DONE) }
     ensures dry { asked.now.target.is_dry ≡ true → WritesNothing acts.old.events acts.new.events }
     ensures saved { IsForNew asked.now → IfOk result (λ _. EndsSaved acts.new.events) }
@@ -250,7 +241,6 @@ fn convert_file(host: &Host<'_>, asked: &Conversion<'_>, acts: &mut Acts) -> Res
 
 /// Writes a fork of the files in a folder, alone or in a file like another one; or puts its resources into a file.
 fn pack<'a>(host: &Host<'_>, asked: Packing<'a>, acts: &mut Acts) -> Result<u8, Failed<'a>>
-    ensures does { Packs asked.entry (ended result) acts.old.events acts.new.events }
     ensures done { IfOk result (λ status. status ≡ DONE) }
     ensures dry { is_dry_place asked.entry.place ≡ true → WritesNothing acts.old.events acts.new.events }
     ensures saved { IsForPlace asked.entry.place → IfOk result (λ _. EndsSaved acts.new.events) }
@@ -304,7 +294,6 @@ fn put_into(
     edit: Edit<'_>,
     acts: &mut Acts,
 ) -> Result<u8, Problem>
-    ensures does { PutsInto target.now creates edit.entry result acts.old.events acts.new.events }
     ensures done { IfOk result (λ status. status ≡ DONE) }
     ensures dry { target.now.is_dry ≡ true → WritesNothing acts.old.events acts.new.events }
     ensures saved { IsForFile target.now → IfOk result (λ _. EndsSaved acts.new.events) }
@@ -322,7 +311,6 @@ fn put_outside(
     edit: Edit<'_>,
     acts: &mut Acts,
 ) -> Result<u8, Problem>
-    ensures does { PutsIf (bytes_eq target.now.file.now (codes "-")) creates target.now edit.entry result acts.old.events acts.new.events }
     ensures done { IfOk result (λ status. status ≡ DONE) }
     ensures dry { target.now.is_dry ≡ true → WritesNothing acts.old.events acts.new.events }
     ensures saved { IsForFile target.now → IfOk result (λ _. EndsSaved acts.new.events) }

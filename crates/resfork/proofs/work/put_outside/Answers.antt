@@ -1,6 +1,5 @@
-use Rattle.std.proofs.Common.{[], rules, inl, refl}
-use Rattle.resfork.specs.Ends.{PutsAt, PutsIf}
-use Rattle.resfork.proofs.Ended.{ends_as, changed_saved, made_saved}
+use Rattle.std.proofs.Common.{[], rules}
+use Rattle.resfork.proofs.Ended.{ends_as, made_saved}
 use Rattle.resfork.proofs.work.put_outside.Goals as goal
 
 pub returns-in-Ok-None-clause-saved : goal.returns-in-Ok-None-clause-saved

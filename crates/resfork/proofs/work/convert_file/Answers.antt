@@ -1,8 +1,0 @@
-use Rattle.fork_saves.proofs.Steps.{then_done, then_not}
-use Rattle.resfork.proofs.work.convert_file.Goals as goal
-
-pub returns-clause-does : goal.returns-clause-does
-returns-clause-does c = then_done _ _ c.in_ok-bytes.bytes c.read.new.acts.events _ _ _ c.in_ok-bytes.ensures.quiet (rw c.deref.ensures.value at c.convert.ensures.does)
-
-pub returns-in_err-bytes-clause-does : goal.returns-in_err-bytes-clause-does
-returns-in_err-bytes-clause-does c = then_not _ _ c.from_residual.result c.in_err-bytes.field-0.0 _ _ c.from_residual.ensures.1 c.in_err-bytes.ensures.quiet
