@@ -221,7 +221,7 @@ leads_to_file other = false
 
 -- it was asked what a path leads to, and looked whether that loses something; not of the standard output, nor where it may
 unfoldable pub ChecksFree : Bool → List ℕ → Table → List ℕ → Result ⊤ Problem → Log → Log → Type 0
-ChecksFree true path table new = Finds (λ end. end ≡ Ok tt)
+ChecksFree true path table new result old now = Finds (λ end. end ≡ Ok tt) result old now
 ChecksFree false path table new result old now = (answer : Answer) × ChecksAt (leads_to_file answer) path table new result (act.Asked path answer ∷ old) now
 
 -- a file was written, and that was said
@@ -242,7 +242,7 @@ with_advice other = other
 
 -- all rows were put into a file, of which there are some
 unfoldable pub PutsRows : Target → Collision → List Row → Result ℕ Problem → Log → Log → Type 0
-PutsRows target how [] = Finds (λ end. end ≡ Err problem.Nothing)
+PutsRows target how [] result old new = Finds (λ end. end ≡ Err problem.Nothing) result old new
 PutsRows target how (row ∷ rows) result old new = ((end : Result ℕ Problem) × CopiesRows target (choices.All ∷ []) how (row ∷ rows) end old new × (result ≡ with_advice end))
     ⊎ ((result ≡ Err problem.HostFull) × (new ≡ old))
 
@@ -281,14 +281,14 @@ Packs asked = Then (ReadsLike asked.like) (PacksLike asked)
 
 -- what a command does that changes files; others only read
 abbrev pub DoesWork : Work → Result ℕ Problem → Log → Log → Type 0
-DoesWork (work.Put asked) = Puts asked
-DoesWork (work.Remove asked) = Removes asked
-DoesWork (work.Set asked) = Sets asked
-DoesWork (work.Copy asked) = Copies asked
-DoesWork (work.Rez asked) = Rezzes asked
-DoesWork (work.Pack asked) = Packs asked
-DoesWork (work.Convert asked) = ConvertsFile asked
-DoesWork (work.PutTexts asked) = PutsTexts asked
+DoesWork (work.Put asked) result = Puts asked result
+DoesWork (work.Remove asked) result = Removes asked result
+DoesWork (work.Set asked) result = Sets asked result
+DoesWork (work.Copy asked) result = Copies asked result
+DoesWork (work.Rez asked) result = Rezzes asked result
+DoesWork (work.Pack asked) result = Packs asked result
+DoesWork (work.Convert asked) result = ConvertsFile asked result
+DoesWork (work.PutTexts asked) result = PutsTexts asked result
 DoesWork (work.Compare asked) result = ReadsWork (work.Compare asked)
 DoesWork (work.Derez asked) result = ReadsWork (work.Derez asked)
 DoesWork (work.Texts file) result = ReadsWork (work.Texts file)

@@ -1,6 +1,6 @@
 //! Resources as a text, and the fork of a text; and the fork of a folder to which resources were unpacked.
 
-ghost use Rattle.std.specs.Prelude.{◌≡◌, ◌∷◌, ℕ, Err, IfErr, IfOk, List, Ok, not, true};
+ghost use Rattle.std.specs.Prelude.{◌≡◌, ◌||◌, ◌∷◌, ℕ, Err, IfErr, IfOk, List, Ok, bytes_eq, codes, not, true};
 ghost use Rattle.fork_bytes.specs.declared.table.Table.{Table};
 ghost use Rattle.fork_rez.specs.Said.{made_table};
 ghost use Rattle.host_paths.specs.declared.host.Answer.{Answer};
@@ -347,6 +347,13 @@ fn file_like(alloc: Global, like: &[u8], table: &Table<'_>) -> Result<Vec<u8>, P
     }
 }
 
+/// Whether what is written at a path may lose what is there: that is forced, or it is the standard output.
+fn may_lose(is_forced: bool, path: &str) -> bool
+    ensures { result ≡ is_forced || bytes_eq path.now (codes "-") }
+{
+    is_forced || path == OUTPUT
+}
+
 /// Writes a new file with a table. A file that is there loses nothing, unless that is forced.
 fn write_new(
     host: &Host<'_>,
@@ -363,7 +370,7 @@ fn write_new(
     ensures seen { IsForOther target.now → ShowsSaved acts.old.events acts.new.events }
 {
     let path = written_file(target);
-    check_free(host, is_forced || path == OUTPUT, path, table, file, acts)?;
+    check_free(host, may_lose(is_forced, path), path, table, file, acts)?;
     let count = table.rows.as_slice().len();
     write_and_tell(host, target, count, file, acts)
 }
