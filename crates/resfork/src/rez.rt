@@ -193,7 +193,7 @@ fn put_rows<'a>(
 
 /// What is in the way, with what can be done where a resource is there already.
 fn with_advice(failed: Failed<'_>) -> Failed<'_>
-    ensures { Err result.problem ≡ with_advice (Err failed.problem) }
+    ensures { Err result.problem ≡ with_advice (Err failed.entry.problem) }
 {
     match failed {
         Failed {
