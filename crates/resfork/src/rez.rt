@@ -62,7 +62,6 @@ fn made_of(alloc: Global, text: &[u8]) -> Result<Made, Problem>
 
 /// Writes a fork of a text, or puts its resources into a file.
 pub fn rez_file<'a>(host: &Host<'_>, asked: Rezzing<'a>, acts: &mut Acts) -> Result<u8, Failed<'a>>
-    ensures does { Rezzes asked.entry (ended result) acts.old.events acts.new.events }
     ensures done { IfOk result (λ status. status ≡ DONE) }
     ensures dry { is_dry_place asked.entry.place ≡ true → WritesNothing acts.old.events acts.new.events }
     ensures saved { IsForPlace asked.entry.place → IfOk result (λ _. EndsSaved acts.new.events) }
@@ -79,7 +78,6 @@ fn rez_text<'a>(
     text: &[u8],
     acts: &mut Acts,
 ) -> Result<u8, Failed<'a>>
-    ensures does { RezzesText asked.entry.place text.now (ended result) acts.old.events acts.new.events }
     ensures done { IfOk result (λ status. status ≡ DONE) }
     ensures dry { is_dry_place asked.entry.place ≡ true → WritesNothing acts.old.events acts.new.events }
     ensures saved { IsForPlace asked.entry.place → IfOk result (λ _. EndsSaved acts.new.events) }
@@ -122,7 +120,6 @@ fn deliver<'a>(
     table: &Table<'_>,
     acts: &mut Acts,
 ) -> Result<u8, Failed<'a>>
-    ensures does { Delivers place.entry (like_bytes like.entry) table.now (ended result) acts.old.events acts.new.events }
     ensures done { IfOk result (λ status. status ≡ DONE) }
     ensures dry { is_dry_place place.entry ≡ true → WritesNothing acts.old.events acts.new.events }
     ensures saved { IsForPlace place.entry → IfOk result (λ _. EndsSaved acts.new.events) }
@@ -159,7 +156,6 @@ fn put_rows<'a>(
     rows: &[Row<'_>],
     acts: &mut Acts,
 ) -> Result<u8, Failed<'a>>
-    ensures does { PutsRows ends.entry.1 on_collision rows.now (ended result) acts.old.events acts.new.events }
     ensures done { IfOk result (λ status. status ≡ DONE) }
     ensures dry { ends.entry.1.is_dry ≡ true → WritesNothing acts.old.events acts.new.events }
     ensures saved { IsForFile ends.entry.1 → IfOk result (λ _. EndsSaved acts.new.events) }
@@ -490,7 +486,6 @@ pub fn pack_folder<'a>(
     like: Option<Like<'a, '_>>,
     acts: &mut Acts,
 ) -> Result<u8, Failed<'a>>
-    ensures does { PacksLike asked.entry (like_bytes like.entry) (ended result) acts.old.events acts.new.events }
     ensures done { IfOk result (λ status. status ≡ DONE) }
     ensures dry { is_dry_place asked.entry.place ≡ true → WritesNothing acts.old.events acts.new.events }
     ensures saved { IsForPlace asked.entry.place → IfOk result (λ _. EndsSaved acts.new.events) }
