@@ -112,9 +112,10 @@ fn framed(alloc: Global, bytes: &[u8], frame: Rect, opcodes: &[Opcode]) -> Resul
     })
 }
 
-/// The picture that the bytes of a 'PICT' resource are, at most 16,777,216 dots. A dot is the last opcode's that covers
-/// it within the clip, else white. A fault says that the bytes are no list of opcodes, that there is no dot or too many,
-/// or that drawing would take too long.
+/// What the bit maps and pixel maps of a 'PICT' resource draw, at most 16,777,216 dots. A dot is that of the last of them
+/// that covers it within the clip and its mask, else white. Nothing else is drawn yet: lines, shapes and text are passed
+/// over, and each map is drawn as if its mode were srcCopy; the result doesn't say so. A fault says that the bytes are no
+/// list of opcodes, that there is no dot or too many, or that drawing would take too long.
 pub fn picture_of(alloc: Global, bytes: &[u8]) -> Result<Drawing, NotDrawn>
     ensures { Draws result (picture_of bytes.now) }
 {
