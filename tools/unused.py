@@ -48,8 +48,6 @@ STAYS = {
     "crates/fork_page/src/laws.rt: page_law": "a theorem, which nothing calls",
     "crates/html_text/src/laws.rt: text_law": "a theorem, which nothing calls",
     "crates/html_text/src/laws.rt: tag_law": "a theorem, which nothing calls",
-    "crates/image_files/src/lines.rt: image_lines": "for a program: the lines of `info`",
-    "crates/image_files/src/still.rt: into_file": "for a program: the file back",
     "crates/res_types/specs/Bits.antt: o": "an operand: the operator is defined there",
     "crates/res_types/src/texts.rt: with_text": "for a program: a text is set",
     "crates/script_tests/src/files.rt: run_over_files": "a theorem, which nothing calls",

@@ -23,17 +23,17 @@ LINES = {
     "README.md": 100,
     "docs/CONTRIBUTING.md": 60,
     "docs/DECISIONS.md": 60,
-    "docs/DESIGN.md": 204,
+    "docs/DESIGN.md": 205,
     "docs/DIFFERENCES.md": 88,
     "docs/EMULATORS.md": 125,
-    "docs/FILES.md": 149,
+    "docs/FILES.md": 160,
     "docs/FORMAT.md": 78,
     "docs/SCRIPT.md": 266,
     "docs/THEOREM.md": 196,
 }
 WIDTH = 100
 # the most words of all pages, code blocks aside
-WORDS = 12500
+WORDS = 12700
 GLOSSARY = "docs/DESIGN.md"
 # the line of the glossary that has the words that no page uses, and what is allowed of them
 ALLOWED = re.compile(r"\bstands? for\b")

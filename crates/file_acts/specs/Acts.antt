@@ -1,7 +1,6 @@
 -- What was done with the host's files and with the standard output, and what was written.
 use Rattle.std.specs.Prelude.{◌≡◌, ◌≢◌, ◌⊎◌, ℕ, true, false, List, [], ◌∷◌, Option, None, Some, Result, Ok, Err, Vec, codes, ⊤}
-use Rattle.std.specs.Borrow.{Bor}
-use Rattle.std.specs.List.{All, Contains}
+use Rattle.std.specs.List.{Contains}
 use Rattle.std.specs.Global.{Global}
 use Rattle.std.specs.declared.fs.File.{File}
 use Rattle.host_paths.specs.Identified.{Identifies}
@@ -51,14 +50,6 @@ ReadsNothing old new = (paths : Paths) → OnlyReads paths old → OnlyReads pat
 -- nothing but this file was
 abbrev pub ReadsOnly : List ℕ → Log → Log → Type 0
 ReadsOnly path old new = (paths : Paths) → MayRead paths path → OnlyReads paths old → OnlyReads paths new
-
--- nothing but these two files
-abbrev pub ReadsBoth : List ℕ → List ℕ → Log → Log → Type 0
-ReadsBoth path other old new = (paths : Paths) → MayRead paths path → MayRead paths other → OnlyReads paths old → OnlyReads paths new
-
--- nothing but these files
-abbrev pub ReadsThese : List (Bor (List ℕ)) → Log → Log → Type 0
-ReadsThese files old new = (paths : Paths) → All (λ file. MayRead paths file.now) files → OnlyReads paths old → OnlyReads paths new
 
 -- files were read, and nothing was written
 abbrev pub WritesNothing : Log → Log → Type 0

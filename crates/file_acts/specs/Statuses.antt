@@ -23,6 +23,7 @@ is_of_resource (problem.NoKind kind) = true
 is_of_resource problem.Nothing = true
 is_of_resource problem.Twice = true
 is_of_resource problem.IsThere = true
+is_of_resource (problem.NotInImage told) = true
 is_of_resource other = false
 
 -- the words of the command line are bad, as those that ask for a form that a resource hasn't; or bytes would go to a
@@ -39,6 +40,8 @@ is_of_words (problem.Untold others) = true
 is_of_words problem.Terminal = true
 is_of_words problem.NoDataFile = true
 is_of_words problem.OneFile = true
+is_of_words problem.InImage = true
+is_of_words problem.IntoImage = true
 is_of_words other = false
 
 -- a file has no resource fork, or a damaged one; or a text or a folder says no resources
@@ -52,6 +55,7 @@ is_of_fork (problem.Rez (rez.Refused fault)) = true
 is_of_fork (problem.Texts (texts.Refused fault)) = true
 is_of_fork (problem.Pack pack.HostFull) = false
 is_of_fork (problem.Pack fault) = true
+is_of_fork (problem.Image told) = true
 is_of_fork (problem.Apart row) = true
 is_of_fork (problem.NoText path) = true
 is_of_fork other = false

@@ -62,7 +62,7 @@ pub(crate) fn note_front(acts: &mut Acts, path: &str, most: u64, read: &Result<V
 }
 
 /// Notes that a file was read in parts.
-pub(crate) fn note_parts<W: World>(acts: &mut Acts, path: &str, store: &PlainStore<FileDisk<W>>)
+pub fn note_parts<W: World>(acts: &mut Acts, path: &str, store: &PlainStore<FileDisk<W>>)
     ensures { acts.new.events ≡ act.ReadParts path.now store.now.disk.number store.now.disk.log.events ∷ acts.old.events }
 {
     *acts = Record::of_events_beside(acts, &path, store);

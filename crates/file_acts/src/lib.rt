@@ -2,6 +2,7 @@
 #![tactic(auto)]
 
 pub mod acts;
+pub mod entries;
 pub mod found;
 pub mod host;
 pub mod input;

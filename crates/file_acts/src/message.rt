@@ -143,6 +143,18 @@ pub enum Problem {
     /// There is no such file.
     #[error("there is no such file; --create makes a new one")]
     NoFile,
+    /// A disk image has nothing of this path: why.
+    #[error("{0}")]
+    NotInImage(String),
+    /// A disk image, or a file in it, isn't read: why.
+    #[error("{0}")]
+    Image(String),
+    /// A file in a disk image would be changed.
+    #[error("it is in a disk image, and files there are only read: resfork convert takes it out")]
+    InImage,
+    /// A file would be written in a disk image.
+    #[error("it would be in a disk image, and images are only read: name a file outside of it")]
+    IntoImage,
     /// The host has no memory.
     #[error("the host has no memory")]
     HostFull,
@@ -249,10 +261,13 @@ impl Problem {
             | Problem::NoKind(_)
             | Problem::Nothing
             | Problem::IsThere
+            | Problem::NotInImage(_)
             | Problem::Twice => NOT_FOUND,
             Problem::Terminal
             | Problem::NoDataFile
             | Problem::OneFile
+            | Problem::InImage
+            | Problem::IntoImage
             | Problem::View(NotShown::NoPicture(_))
             | Problem::View(NotShown::NoText)
             | Problem::View(NotShown::Compressed(_))
@@ -266,6 +281,7 @@ impl Problem {
             | Problem::Texts(TextFault::Refused(_))
             | Problem::Pack(_)
             | Problem::Salvageable(_)
+            | Problem::Image(_)
             | Problem::Apart(_)
             | Problem::NoText(_) => NO_FORK,
             _ => CANT_GO_ON,

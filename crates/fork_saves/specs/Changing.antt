@@ -16,6 +16,8 @@ use Rattle.file_acts.specs.Problems.{IsToldOfChange, after_change}
 use Rattle.file_acts.specs.declared.message.Problem.{Problem}
 use Rattle.file_acts.specs.Saved.{JustRead, SavedAndSaid}
 use Rattle.fork_saves.specs.Putting.{OpensFile, Renews, Saves}
+use Rattle.fork_saves.specs.declared.source.Source.{Source}
+use Rattle.fork_saves.specs.declared.source.Source.TheVariants as source
 
 -- a changed file was saved; where nothing changes, the bytes as they were, or these were read and that was all
 abbrev pub EndsAs : List ℕ → Option NewFile → Log → Type 0
@@ -42,6 +44,20 @@ written_file target = option_map_or (λ path. path.now) target.output target.fil
 abbrev pub IsForNew : Conversion → Type 0
 IsForNew asked = (asked.target.is_dry ≡ false) × (written_file asked.target ≢ codes "-") × IfSome asked.data (λ path. path.now ≢ codes "-")
 
+-- the bytes of a file that was opened to be changed
+abbrev pub source_bytes : Source → List ℕ
+source_bytes (source.Read bytes) = bytes.items
+source_bytes (source.Held held bytes) = bytes.items
+
+abbrev pub is_held : Source → Bool
+is_held (source.Read bytes) = false
+is_held (source.Held held bytes) = true
+
+-- they were just read, where the file is held
+abbrev pub IsJustRead : Source → Log → Type 0
+IsJustRead (source.Read bytes) new = ⊤
+IsJustRead (source.Held held bytes) new = JustRead bytes.items new
+
 -- nothing is written: no other file is named, or it is only said what would be done
 abbrev pub IsIdle : Target → Type 0
 IsIdle target = (target.output ≡ None) ⊎ (target.is_dry ≡ true)
@@ -60,6 +76,10 @@ goes_to target = if target.is_dry then None else target.output
 -- the file that is read isn't written: another one is, or none
 abbrev pub is_elsewhere : Target → Bool
 is_elsewhere target = target.is_dry || is_some target.output
+
+-- a file is held that is to be replaced, and no other one
+abbrev pub IsOpenedFor : Target → Source → Type 0
+IsOpenedFor target it = is_held it ≡ not (is_elsewhere target)
 
 -- the standard output, which "-" is
 abbrev pub is_output : Option (Bor (List ℕ)) → Bool
@@ -114,29 +134,34 @@ ReplacesBy target held before (Some changed) = Replaces target held before chang
 unfoldable pub ChangesInto : Target → List ℕ → List Row → Edit → Result ℕ Problem → Log → Log → Type 0
 ChangesInto target before from edit = Then (Finds (IsOutcome before from edit)) (WritesOutcome target before)
 
--- a file was read, and what comes of its bytes goes to another
-unfoldable pub ChangesOther : Target → List Row → Edit → Result ℕ Problem → Log → Log → Type 0
-ChangesOther target from edit = Then (Reads target.file.now) (λ bytes. ChangesInto target bytes.items from edit)
-
 -- what comes of the bytes of a file that is held goes to its place
 unfoldable pub RenewsBy : Target → Held → List ℕ → List Row → Edit → Result ℕ Problem → Log → Log → Type 0
 RenewsBy target held before from edit = Then (Finds (IsOutcome before from edit)) (ReplacesBy target held before)
 
--- a file that is held was read, and what comes of its bytes goes to its place
-unfoldable pub ChangesHeld : Target → Held → List Row → Edit → Result ℕ Problem → Log → Log → Type 0
-ChangesHeld target held from edit = Then (ReadsHeld held.file) (λ bytes. RenewsBy target held bytes.items from edit)
+-- a file was opened and locked, and that one read
+unfoldable pub HoldsFile : List ℕ → Result Source Problem → Log → Log → Type 0
+HoldsFile path = Then (OpensFile path) (λ held. Then (ReadsHeld held.file) (λ bytes. Finds (λ end. end ≡ Ok (source.Held held bytes))))
 
--- a file was opened and locked, and that one read, and what comes of its bytes put in its place
-unfoldable pub ChangesInPlace : Target → List Row → Edit → Result ℕ Problem → Log → Log → Type 0
-ChangesInPlace target from edit = Then (OpensFile target.file.now) (λ held. ChangesHeld target held from edit)
+-- a file was read that isn't to be replaced
+unfoldable pub ReadsSource : List ℕ → Result Source Problem → Log → Log → Type 0
+ReadsSource path = Then (Reads path) (λ bytes. Finds (λ end. end ≡ Ok (source.Read bytes)))
 
-unfoldable pub ChangesIf : Bool → Target → List Row → Edit → Result ℕ Problem → Log → Log → Type 0
-ChangesIf true = ChangesOther
-ChangesIf false = ChangesInPlace
+unfoldable pub OpensIf : Bool → List ℕ → Result Source Problem → Log → Log → Type 0
+OpensIf true = ReadsSource
+OpensIf false = HoldsFile
+
+-- a file that is to be changed was opened, once
+unfoldable pub OpensSource : Target → Result Source Problem → Log → Log → Type 0
+OpensSource target = OpensIf (is_elsewhere target) target.file.now
+
+-- what comes of its bytes goes to its place, or to another
+unfoldable pub ChangesSource : Target → Source → List Row → Edit → Result ℕ Problem → Log → Log → Type 0
+ChangesSource target (source.Read bytes) = ChangesInto target bytes.items
+ChangesSource target (source.Held held bytes) = RenewsBy target held bytes.items
 
 -- a file was changed, in its own place or in another
 unfoldable pub Changes : Target → List Row → Edit → Result ℕ Problem → Log → Log → Type 0
-Changes target = ChangesIf (is_elsewhere target) target
+Changes target from edit = Then (OpensSource target) (λ source. ChangesSource target source from edit)
 
 -- the file that is made is the other one, if one is named, or the one that would be read
 abbrev pub to_new : Target → Target

@@ -3,13 +3,13 @@
 ghost use Rattle.std.specs.Prelude.{◌≡◌, ◌≢◌, ℕ, List, [], IfErr, IfNone, IfOk, IfSome, Ok, codes, false, is_some, string_bytes, true};
 ghost use Rattle.file_acts.specs.Acts.{ReadsNothing, WritesNothing};
 ghost use Rattle.file_acts.specs.Saved.{JustRead, JustSaved, SavedAndSaid, ShowsSaved};
-ghost use Rattle.fork_saves.specs.Changing.{Changes, ChangesHeld, ChangesInPlace, ChangesInto, ChangesOther, Creates, EndsBy, IsForFile, IsForOther, IsIdle, IsOutcome, RenewsBy, Replaces, Says, SaysAfter, WritesChanged, WritesTo, goes_to, is_elsewhere, is_output, is_said, to_new, written_file};
+ghost use Rattle.fork_saves.specs.Changing.{Changes, ChangesInto, ChangesSource, Creates, EndsBy, IsForFile, IsForOther, IsIdle, IsJustRead, IsOpenedFor, IsOutcome, RenewsBy, Replaces, Says, SaysAfter, WritesChanged, WritesTo, goes_to, is_output, is_said, source_bytes, to_new, written_file};
 ghost use Rattle.fork_saves.specs.Saving.{IsNotSaved};
 
-use crate::save::{Renewal, open_held, renew, save_to};
+use crate::save::{Renewal, renew, save_to};
+use crate::source::Source;
 use file_acts::acts::{Acts, write_text};
 use file_acts::host::{Host, OUTPUT};
-use file_acts::input::{read, read_held};
 use file_acts::message::{DONE, Problem};
 use file_replace::Held;
 use fork_bytes::table::Row;
@@ -33,38 +33,31 @@ pub fn change_file(
     ensures saved { IsForFile target.now → IfOk result (λ _. (old : List ℕ) × EndsBy old from.now edit.entry acts.new.events) }
     ensures seen { IsForFile target.now → ShowsSaved acts.old.events acts.new.events }
 {
-    if is_elsewhere(target) {
-        change_other(host, target, from, edit, acts)
-    } else {
-        change_in_place(host, target, from, edit, acts)
-    }
+    let source = Source::open(host, target, acts)?;
+    change_source(host, target, source, from, edit, acts)
 }
 
-/// Whether the file that is read isn't written: another one is, or none.
-fn is_elsewhere(target: &Target<'_>) -> bool
-    ensures is { result ≡ is_elsewhere target.now }
-    ensures here { result ≡ false → target.now.is_dry ≡ false }
-    ensures other { result ≡ true → target.now.is_dry ≡ false → is_some target.now.output ≡ true }
-{
-    target.is_dry || target.output.is_some()
-}
-
-/// Changes what is read of a file, and writes it to another, or only says what would change.
-fn change_other(
+/// Changes the resources of a file that was opened for this target, by an edit to which they are copied from these rows.
+/// The result is the same.
+pub fn change_source(
     host: &Host<'_>,
     target: &Target<'_>,
+    source: Source,
     from: &[Row<'_>],
     edit: Edit<'_>,
     acts: &mut Acts,
 ) -> Result<u8, Problem>
-    ensures does { ChangesOther target.now from.now edit.entry result acts.old.events acts.new.events }
+    requires { IsOpenedFor target.now source }
+    ensures does { ChangesSource target.now source from.now edit.entry result acts.old.events acts.new.events }
     ensures done { IfOk result (λ status. status ≡ DONE) }
     ensures dry { target.now.is_dry ≡ true → WritesNothing acts.old.events acts.new.events }
-    ensures saved { IsForOther target.now → IfOk result (λ _. (old : List ℕ) × EndsBy old from.now edit.entry acts.new.events) }
-    ensures seen { IsForOther target.now → ShowsSaved acts.old.events acts.new.events }
+    ensures saved { IsForFile target.now → IsJustRead source acts.old.events → IfOk result (λ _. EndsBy (source_bytes source) from.now edit.entry acts.new.events) }
+    ensures seen { IsForFile target.now → IsJustRead source acts.old.events → ShowsSaved acts.old.events acts.new.events }
 {
-    let old = read(host, target.file, acts)?;
-    change_into(host, target, &old, from, edit, acts)
+    match source {
+        Source::Read(old) => change_into(host, target, &old, from, edit, acts),
+        Source::Held(held, old) => renew_by(host, target, held, &old, (from, edit), acts),
+    }
 }
 
 /// Makes a new file with these resources. The result is the same.
@@ -86,41 +79,6 @@ pub fn create_file(
         ..*target
     };
     change_into(host, &target, &[], from, edit, acts)
-}
-
-/// Changes a file in its own place. Where nothing changes, it isn't touched.
-fn change_in_place(
-    host: &Host<'_>,
-    target: &Target<'_>,
-    from: &[Row<'_>],
-    edit: Edit<'_>,
-    acts: &mut Acts,
-) -> Result<u8, Problem>
-    ensures does { ChangesInPlace target.now from.now edit.entry result acts.old.events acts.new.events }
-    ensures done { IfOk result (λ status. status ≡ DONE) }
-    ensures saved { IfOk result (λ _. (old : List ℕ) × EndsBy old from.now edit.entry acts.new.events) }
-    ensures seen { ShowsSaved acts.old.events acts.new.events }
-{
-    let held = open_held(host, target.file, acts)?;
-    change_held(host, target, held, from, edit, acts)
-}
-
-/// Changes a file that is held.
-fn change_held(
-    host: &Host<'_>,
-    target: &Target<'_>,
-    held: Held,
-    from: &[Row<'_>],
-    edit: Edit<'_>,
-    acts: &mut Acts,
-) -> Result<u8, Problem>
-    ensures does { ChangesHeld target.now held from.now edit.entry result acts.old.events acts.new.events }
-    ensures done { IfOk result (λ status. status ≡ DONE) }
-    ensures saved { IfOk result (λ _. (old : List ℕ) × EndsBy old from.now edit.entry acts.new.events) }
-    ensures seen { ShowsSaved acts.old.events acts.new.events }
-{
-    let old = read_held(host, held.file(), acts)?;
-    renew_by(host, target, held, &old, (from, edit), acts)
 }
 
 /// Changes a file that is held and has these bytes, by an edit to which resources are copied from these rows.

@@ -8,3 +8,4 @@ pub mod laws;
 mod order;
 mod ready;
 pub mod save;
+pub mod source;

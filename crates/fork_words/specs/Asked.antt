@@ -21,6 +21,7 @@ use Rattle.fork_view.specs.declared.view.Chosen.{Chosen}
 use Rattle.fork_view.specs.declared.view.Chosen.TheVariants as chosen
 use Rattle.fork_words.specs.Changes.{AsksFor, form_of}
 use Rattle.fork_words.specs.Endings.{IsViewForm}
+use Rattle.fork_words.specs.Finding.{IsFinding}
 use Rattle.fork_words.specs.Given.{is_given, text_of, texts_of, word_of, word_or, words_of}
 use Rattle.fork_words.specs.Kinds.{NameKinds, NamesKind}
 use Rattle.fork_words.specs.Named.{NamesKey, NamesNth}
@@ -93,6 +94,7 @@ pub record IsShowing (command : List ℕ) (found : Found) (asked : Showing) : Ty
   pub request : IsRequest command found asked.request
   pub files : texts_of asked.files.items ≡ words_of found (codes "file")
   pub titles : asked.titles ≡ titles_of found
+  pub recursive : asked.is_recursive ≡ is_given found (codes "recursive")
   pub output : text_of asked.output ≡ first_value found (codes "output")
 
 -- what is salvaged: a fork by `-o`, or else the data fork by `--data`; nothing is written without them
@@ -140,6 +142,7 @@ Asks command found (asked.Salvage salvaging) = (command ≡ codes "salvage") × 
 Asks command found (asked.View viewing) = (command ≡ codes "show") × IsViewing found viewing
 Asks command found (asked.Unpack unpacking file) = (command ≡ codes "unpack") × IsUnpacking found unpacking file.now
 Asks command found (asked.Page paging) = (command ≡ codes "page") × IsPaging found paging
+Asks command found (asked.Find finding) = (command ≡ codes "find") × IsFinding found finding
 Asks command found (asked.Change work) = AsksFor command found work
 Asks command found (asked.Tell told) = ⊥
 

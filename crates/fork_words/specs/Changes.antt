@@ -6,7 +6,7 @@ use Rattle.fork_report.specs.declared.request.Form.{Form}
 use Rattle.fork_report.specs.declared.request.Form.TheVariants.{Json, Text}
 use Rattle.fork_words.specs.Given.{is_given, text_of, word_of, word_or, words_of}
 use Rattle.fork_words.specs.Kinds.{NameKinds, NamesKind}
-use Rattle.fork_words.specs.Named.{Each, IsAttributeChange, IsNameChange, NameChoices, NamesIdOf, NamesName, NamesResource}
+use Rattle.fork_words.specs.Named.{Each, IsAttributeChange, IsNameChange, IsNamed, NameChoices, NamesIdOf, NamesName, NamesResource}
 use Rattle.fork_words.specs.Places.{IsPack, IsRez, IsTarget, collision_of}
 use Rattle.fork_words.specs.Texts.{IsListing, IsPutTexts}
 use Rattle.fork_words.specs.declared.work.Comparison.{Comparison}
@@ -74,12 +74,6 @@ container_word container.AppleDouble = codes "appledouble"
 container_word container.AppleSingle = codes "applesingle"
 container_word container.MacBinary = codes "macbinary"
 container_word container.BinHex = codes "binhex"
-
--- a name is the one that a word shows, where there is one
-abbrev pub IsNamed : Option (List ℕ) → Option (List ℕ) → Type 0
-IsNamed None name = name ≡ None
-IsNamed (Some word) (Some name) = NamesName word name
-IsNamed (Some word) None = ⊥
 
 -- what `convert` asks for
 pub record IsConvert (found : Found) (asked : Conversion) : Type 0 where

@@ -9,3 +9,5 @@ pub mod Places
 pub mod Texts
 pub mod Changes
 pub mod Asked
+pub mod Finding
+pub mod Outputs

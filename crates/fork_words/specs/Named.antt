@@ -48,6 +48,12 @@ Each names (word ∷ words) [] = ⊥
 abbrev pub NamesName : List ℕ → List ℕ → Type 0
 NamesName word name = (bytes : List ℕ) × (roman_text bytes ≡ word) × ShowsName bytes name
 
+-- a name is the one that a word shows, where there is one
+abbrev pub IsNamed : Option (List ℕ) → Option (List ℕ) → Type 0
+IsNamed None name = name ≡ None
+IsNamed (Some word) (Some name) = NamesName word name
+IsNamed (Some word) None = ⊥
+
 -- the word is this id, or else shows this name
 abbrev pub NamesKey : List ℕ → Key → Type 0
 NamesKey word (key.Id id) = NamesId word id

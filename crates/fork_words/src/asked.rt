@@ -12,6 +12,7 @@ ghost use Rattle.fork_words.specs.Named.{NamesKey, NamesName, NamesNth};
 use crate::command::program;
 use crate::ending::view_form;
 use crate::fault::Fault;
+use crate::find::{Finding, asked_to_find};
 use crate::size::{LIMIT, limit_of};
 use crate::work::{Work, work_of};
 use clap::ArgMatches;
@@ -42,6 +43,8 @@ pub struct Showing<'a> {
     pub request: Request,
     pub files: Vec<&'a str>,
     pub titles: Titles,
+    /// Whether all is shown that is below a folder of a disk image.
+    pub is_recursive: bool,
     pub output: Option<&'a str>,
 }
 
@@ -104,6 +107,8 @@ pub enum Asked<'a> {
     },
     /// To write a page that shows what files have.
     Page(Paging<'a>),
+    /// To find resources in files and folders.
+    Find(Finding<'a>),
     /// To change files, or to compare them.
     Change(Work<'a>),
     /// To write this text: the help, or the version.
@@ -198,6 +203,7 @@ fn asked_for<'a>(alloc: Global, name: &str, matches: &ArgMatches<'a>) -> Result<
         "show" => asked_to_view(alloc, matches),
         "unpack" => asked_to_unpack(alloc, matches),
         "page" => asked_for_page(alloc, matches),
+        "find" => asked_to_find(alloc, matches),
         name => Ok(Asked::Change(work_of(alloc, name, matches)?)),
     }
 }
@@ -279,7 +285,7 @@ pub(crate) fn word_or<'a>(matches: &ArgMatches<'a>, name: &str, other: &'a str) 
 }
 
 /// The files that a command names.
-fn files_named<'a>(alloc: Global, matches: &ArgMatches<'a>) -> Result<Vec<&'a str>, AllocError>
+pub(crate) fn files_named<'a>(alloc: Global, matches: &ArgMatches<'a>) -> Result<Vec<&'a str>, AllocError>
     ensures { IfOk result (λ files. texts_of files.items ≡ words_of (found_of matches.now) (codes "file")) }
 {
     Vec::from_slice(alloc, matches.get_strs("file").unwrap_or(&[]))
@@ -352,6 +358,7 @@ fn shown<'a>(
         request,
         files,
         titles: titles_of(matches),
+        is_recursive: flag(matches, "recursive"),
         output: matches.get_str("output"),
     }))
 }

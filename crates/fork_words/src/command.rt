@@ -9,19 +9,24 @@ const ABOUT: &str = "Shows and changes what the resource forks of old Macintosh 
 /// What its help ends with.
 const EXAMPLES: &str =
     "FILE is a file that holds a resource fork, alone or in AppleSingle, AppleDouble, MacBinary or BinHex.
-- is the standard input.
+- is the standard input. Where no file has this name, IMAGE:PATH is a file in a disk image, which is
+only read: in PATH / is between names, and : is a Macintosh's /.
 
 Examples:
   resfork ls Game.rsrc                 all resources of a file
   resfork ls -t STR# -t TEXT *.rsrc    those of two types, of several files
   resfork get Game.rsrc TEXT 128       the bytes of a resource, by its id
   resfork get Game.rsrc TEXT 'Read me' -o readme.txt
+  resfork ls -R disk.img               all folders and files in a disk image
+  resfork ls 'disk.img:Games/Doom'     the resources of one of these files
   resfork info Game.bin                what a file is
   resfork check Game.rsrc              whether a fork is damaged, and where
   resfork salvage bad.rsrc -o OUT      all resources that can be read of a damaged fork
   resfork show Game.rsrc 'STR#' 128    the texts of a resource
   resfork show Game.rsrc ICN# 128 -o icon.png
   resfork page Game.rsrc -o game.html  a page that shows all of it
+  resfork find -t vers --text 1.0 Games
+                                       such resources of all files in a folder
   resfork unpack Game.rsrc game        each resource as a file in the folder game
   resfork pack game New.rsrc           a fork of what is in the folder game
   resfork put Game.rsrc TEXT 128 -i readme.txt
@@ -151,6 +156,13 @@ const COMMANDS: &[CommandText] = &[
         ),
     },
     CommandText {
+        name: "find",
+        about: "Finds resources in files and folders",
+        long_about: Some(
+            "Finds resources in files, and in all files below folders: a line for each as ls shows it, with the file's name before. What is given has to hold of a resource all at once. Files without resources are passed over below folders. The status is 1 where there is none",
+        ),
+    },
+    CommandText {
         name: "put",
         about: "Replaces the bytes of a resource, or adds one",
         long_about: Some(
@@ -239,7 +251,7 @@ macro_rules! word {
 
 /// The options of the commands.
 const OPTIONS: &[Word] = &[
-    word!("ls" "unpack" "derez", "type", Form::Short('t', "type"), Values::Each("TYPE");
+    word!("ls" "unpack" "derez" "find", "type", Form::Short('t', "type"), Values::Each("TYPE");
         "Only resources of this type, as ls shows it (STR is 'STR '); it may be given several times"),
     word!("ls", "types", Form::Long("types"), Values::Flag;
         "Lists types: a line for each, with how many resources it has"),
@@ -251,6 +263,8 @@ const OPTIONS: &[Word] = &[
         "Shows letters that aren't ASCII as \\xHH, and not as the characters that they are in MacRoman"),
     word!("ls" "info" "check", "json", Form::Long("json"), Values::Flag;
         "One line of JSON for each file"),
+    word!("ls", "recursive", Form::Short('R', "recursive"), Values::Flag, rival: Some("json");
+        "Of a disk image or a folder in it: all that is below, and not only what is directly in it"),
     word!("ls", "paths", Form::Long("paths"), Values::Flag, rival: Some("json");
         "Each line begins with the file's name, also that of one file"),
     word!("ls", "sha256", Form::Long("sha256"), Values::Flag, rival: Some("types");
@@ -267,6 +281,12 @@ const OPTIONS: &[Word] = &[
         "Of several such resources the N-th, counted from 1"),
     word!("put", "input", Form::Short('i', "input"), Values::One("IN");
         "The file with the resource's bytes, in place of the standard input"),
+    word!("find", "id", Form::Long("id"), Values::One("N"), dashes: Dashes::Numbers;
+        "Only resources with this id"),
+    word!("find", "name", Form::Long("name"), Values::One("TEXT");
+        "Only resources with this somewhere in their name; letters as ls shows them"),
+    word!("find", "text", Form::Long("text"), Values::One("TEXT");
+        "Only resources with this somewhere in their bytes; letters as ls shows them in names, \\xHH any byte"),
     word!("set", "id", Form::Long("id"), Values::One("N"), dashes: Dashes::Numbers;
         "Its new id"),
     word!("set", "type", Form::Long("type"), Values::One("T");
@@ -325,7 +345,7 @@ const OPTIONS: &[Word] = &[
         "Says what would be done, and writes nothing"),
     word!("put" "rm" "set" "cp" "pack" "rez" "texts" "convert", "quiet", Form::Short('q', "quiet"), Values::Flag;
         "Doesn't say what was done"),
-    word!("ls" "get" "info" "check" "salvage" "show" "unpack" "page" "put" "rm" "set" "cp" "diff" "pack" "derez" "rez" "texts" "convert", "limit", Form::Long("limit"), Values::One("SIZE");
+    word!("ls" "get" "info" "check" "salvage" "show" "unpack" "page" "find" "put" "rm" "set" "cp" "diff" "pack" "derez" "rez" "texts" "convert", "limit", Form::Long("limit"), Values::One("SIZE");
         "Refuses a file of more bytes than this: a number, which K, M or G after it counts in 1024s; else 1G"),
 ];
 
@@ -333,6 +353,8 @@ const OPTIONS: &[Word] = &[
 const OPERANDS: &[Word] = &[
     word!("ls" "info" "check" "page", "file", Form::Operand, Values::Many("FILE"), is_required: true;
         "The files; - is the standard input"),
+    word!("find", "file", Form::Operand, Values::Many("FILE|DIR"), is_required: true;
+        "The files, and folders of files; links below folders aren't followed"),
     word!("get" "salvage" "show" "unpack" "put" "rm" "set" "derez" "rez" "texts", "file", Form::Operand, Values::One("FILE"), is_required: true;
         "The file; - is the standard input"),
     word!("get" "put" "rm", "type", Form::Operand, Values::One("TYPE"), is_required: true;

@@ -5,6 +5,8 @@ pub mod asked;
 mod command;
 mod ending;
 pub mod fault;
+pub mod find;
+mod outputs;
 pub mod size;
 pub mod texts;
 pub mod work;

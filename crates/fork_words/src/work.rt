@@ -4,10 +4,10 @@ ghost use Rattle.std.specs.Prelude.{◌≡◌, ℕ, List, codes, IfErr, IfNone, 
 ghost use Rattle.std.specs.Borrow.{Bor};
 ghost use Rattle.clap.specs.Matches.{first_value, found_of};
 ghost use Rattle.fork_words.specs.Asks.{IsFault};
-ghost use Rattle.fork_words.specs.Changes.{AsksFor, IsNamed, container_word};
+ghost use Rattle.fork_words.specs.Changes.{AsksFor, container_word};
 ghost use Rattle.fork_words.specs.Given.{texts_of, words_of};
 ghost use Rattle.fork_words.specs.Inputs.{GoesElsewhere, IsInput, ReadsOnce};
-ghost use Rattle.fork_words.specs.Named.{ChangeBits, ChangesBit, Each, IsAttributeChange, IsId, IsNameChange, NameBits, NameChoices, NamesBit, NamesChoice, NamesId, NamesIdOf, NamesOne, NamesResource, between_commas, no_change};
+ghost use Rattle.fork_words.specs.Named.{ChangeBits, ChangesBit, Each, IsAttributeChange, IsId, IsNameChange, IsNamed, NameBits, NameChoices, NamesBit, NamesChoice, NamesId, NamesIdOf, NamesOne, NamesResource, between_commas, no_change};
 ghost use Rattle.fork_words.specs.Places.{IsNoPlace, IsPlace, IsTarget, collision_of};
 
 use crate::INPUT;
@@ -317,7 +317,7 @@ pub(crate) fn target_of<'a>(matches: &ArgMatches<'a>, file: &'a str) -> Target<'
 }
 
 /// The id that a word names.
-fn id_named(word: &str) -> Result<i16, Fault>
+pub(crate) fn id_named(word: &str) -> Result<i16, Fault>
     ensures id { IfOk result (NamesId word.now) }
     ensures refused { IfErr result (λ why. (why ≡ Fault.NoId) × ¬ IsId word.now) }
 {
@@ -640,12 +640,16 @@ fn kind_of_container(word: &str) -> Result<Kind, Fault>
     }
 }
 
-/// The name of a new file, where one is given.
-fn new_name(alloc: Global, matches: &ArgMatches<'_>) -> Result<Option<Vec<u8>>, NotAsked>
-    ensures name { IfOk result (λ name. IsNamed (first_value (found_of matches.now) (codes "name")) (option_map (λ bytes. bytes.items) name)) }
+/// The name, or other bytes, that the value of an option shows, where it is given.
+pub(crate) fn name_given(
+    alloc: Global,
+    matches: &ArgMatches<'_>,
+    option: &str,
+) -> Result<Option<Vec<u8>>, NotAsked>
+    ensures name { IfOk result (λ name. IsNamed (first_value (found_of matches.now) option.now) (option_map (λ bytes. bytes.items) name)) }
     ensures fault { IfErr result IsFault }
 {
-    match matches.get_str("name") {
+    match matches.get_str(option) {
         Some(word) => Ok(Some(name_named(alloc, word)?)),
         None => Ok(None),
     }
@@ -657,7 +661,7 @@ fn convert<'a>(alloc: Global, matches: &ArgMatches<'a>) -> Result<Work<'a>, NotA
     ensures once { IfOk result ReadsOnce }
     ensures fault { IfErr result IsFault }
 {
-    let name = new_name(alloc, matches)?;
+    let name = name_given(alloc, matches, "name")?;
     let data = matches.get_str("data");
     let file = word(matches, "file");
     if file == INPUT && data == Some(INPUT) {

@@ -1,11 +1,14 @@
 -- How commands that change files end.
-use Rattle.std.proofs.Common.{◌≡◌, inl, inr, ℕ, List, Option, Some, None, Result, Ok, Err}
-use Rattle.std.specs.Prelude.{IfOk}
+use Rattle.std.proofs.Common.{◌≡◌, ap, inl, inr, subst, ◌∙◌, ℕ, List, Option, Some, None, Result, Ok, Err}
+use Rattle.std.specs.Prelude.{IfErr, IfOk, IsErrAnd}
+use Rattle.std.proofs.lemmas.Result.{err_from_is_err_and}
 use Rattle.fork_edit.specs.declared.change.NewFile.{NewFile}
 use Rattle.file_acts.specs.declared.message.Problem.{Problem}
-use Rattle.file_acts.specs.Acts.{Log}
+use Rattle.file_acts.specs.Acts.{Log, Then}
 use Rattle.fork_saves.specs.Saving.{EndsSaved}
 use Rattle.fork_saves.specs.Changing.{EndsAs}
+use Rattle.fork_shows.specs.declared.failed.Failed.{Failed}
+use Rattle.resfork.specs.Ends.{ended}
 
 -- however a change ends, it ends with a save, or nothing had to change
 pub ends_as : (old : List ℕ) (changed : Option NewFile) (new : Log) → EndsAs old changed new → EndsSaved new
@@ -26,3 +29,15 @@ made_saved (Err why) new ends saved = tt
 pub filed : {E F : Type 0} (P : Type 0) (done : Result ℕ E) (result : Result ℕ F) → IfOk result (λ value. done ≡ Ok value) → IfOk done (λ status. P) → IfOk result (λ status. P)
 filed P done (Ok status) is saved = rw is at saved
 filed P done (Err failed) is saved = tt
+
+-- without the name of the file that is in the way, it is what was done
+pub ended_is : {T : Type 0} (done : Result T Problem) (result : Result T Failed) → IfOk result (λ value. done ≡ Ok value) → IfErr result (λ failed. done ≡ Err failed.problem) → done ≡ ended result
+ended_is done (Ok value) is why = is
+ended_is done (Err failed) is why = why
+
+-- the first step wasn't done, and its problem is handed on with the name of the file that is in the way
+pub filed_not : {T U : Type 0} (first : Result T Problem → Log → Log → Type 0) (next : T → Result U Problem → Log → Log → Type 0) (result : Result U Failed) (failed : Failed) (done : Result T Problem) (old new : Log)
+    → IsErrAnd result (λ told. told ≡ failed) → done ≡ Err failed.problem → first done old new → Then first next (ended result) old new
+unfolding Then
+filed_not first next result failed done old new is was one = let p = err_from_is_err_and result is in
+    inr (failed.problem, ap ended (p.1 ∙ ap (λ (e : Failed). Err e) p.2), subst (λ (it : Result _ Problem). first it old new) was one)

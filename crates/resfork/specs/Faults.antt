@@ -4,12 +4,6 @@ use Rattle.fork_edit.specs.declared.file.NotWritten.TheVariants as written
 use Rattle.file_acts.specs.declared.message.Problem.{Problem}
 use Rattle.file_acts.specs.declared.message.Problem.TheVariants as problem
 
--- that there is no resource of a type, if one is missing
-abbrev pub IsToldOfKinds : {T : Type 0} → Option (List ℕ) → Result T Problem → Type 0
-IsToldOfKinds (Some kind) told = told ≡ Err (problem.NoKind kind)
-IsToldOfKinds None (Ok done) = ⊤
-IsToldOfKinds None (Err why) = ⊥
-
 -- the file that is in the way where a folder isn't packed: the one that the new file is like, where that is a text which
 -- can't be read, or a container which can't hold the fork
 abbrev pub file_at_fault : Option (List ℕ) → List ℕ → Problem → List ℕ

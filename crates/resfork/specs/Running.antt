@@ -2,13 +2,13 @@
 use Rattle.std.specs.Prelude.{Bool, true, false, is_none, ℕ, List}
 use Rattle.fork_words.specs.declared.asked.Asked.{Asked}
 use Rattle.fork_words.specs.declared.asked.Asked.TheVariants as asked
-use Rattle.fork_words.specs.declared.asked.Salvage.{Salvage}
-use Rattle.fork_words.specs.declared.asked.Salvage.TheVariants as salvage
 use Rattle.fork_words.specs.declared.work.Place.{Place}
 use Rattle.fork_words.specs.declared.work.Place.TheVariants.{New, Into}
 use Rattle.fork_words.specs.declared.work.Work.{Work}
 use Rattle.fork_words.specs.declared.work.Work.TheVariants as work
-use Rattle.file_acts.specs.Acts.{Log, ReadsBoth, ReadsNothing, ReadsOnly, ReadsThese, WritesNothing}
+use Rattle.file_acts.specs.Acts.{Log, ReadsNothing, WritesNothing}
+use Rattle.image_acts.specs.Words.{ReadsBothWords, ReadsWord, ReadsWords}
+use Rattle.fork_shows.specs.Salvages.{only_lists}
 use Rattle.fork_saves.specs.Changing.{IsForFile, IsForNew, IsForOther}
 
 -- nothing is written in this place
@@ -30,11 +30,6 @@ writes_nothing (work.Convert asked) = asked.target.is_dry
 writes_nothing (work.Texts file) = true
 writes_nothing (work.PutTexts asked) = asked.target.is_dry
 
--- what is salvaged is only listed
-abbrev pub only_lists : Salvage → Bool
-only_lists (salvage.List letters) = true
-only_lists other = false
-
 -- nothing is written but to the standard output: no other file is named to be written, or it is only said what would be
 -- done
 abbrev pub only_reads : Asked → Bool
@@ -44,25 +39,27 @@ only_reads (asked.Salvage salvaging) = only_lists salvaging.what
 only_reads (asked.View viewing) = is_none viewing.output
 only_reads (asked.Unpack unpacking file) = false
 only_reads (asked.Page paging) = is_none paging.output
+only_reads (asked.Find finding) = true
 only_reads (asked.Change change) = writes_nothing change
 only_reads (asked.Tell text) = true
 
 -- a command that writes to no file read just the files that it names; where it only says what it would do, files that it
 -- needs for that
 abbrev pub ReadsWork : Work → Log → Log → Type 0
-ReadsWork (work.Compare asked) = ReadsBoth asked.a.now asked.b.now
-ReadsWork (work.Derez asked) = ReadsOnly asked.file.now
-ReadsWork (work.Texts file) = ReadsOnly file.now
+ReadsWork (work.Compare asked) = ReadsBothWords asked.a.now asked.b.now
+ReadsWork (work.Derez asked) = ReadsWord asked.file.now
+ReadsWork (work.Texts file) = ReadsWord file.now
 ReadsWork other = WritesNothing
 
 -- the same of whatever is asked for
 abbrev pub ReadsAsked : Asked → Log → Log → Type 0
-ReadsAsked (asked.Show showing) = ReadsThese showing.files.items
-ReadsAsked (asked.Report reporting) = ReadsThese reporting.files.items
-ReadsAsked (asked.Salvage salvaging) = ReadsOnly salvaging.file.now
-ReadsAsked (asked.View viewing) = ReadsOnly viewing.file.now
-ReadsAsked (asked.Unpack unpacking file) = ReadsOnly file.now
-ReadsAsked (asked.Page paging) = ReadsThese paging.files.items
+ReadsAsked (asked.Show showing) = ReadsWords showing.files.items
+ReadsAsked (asked.Report reporting) = ReadsWords reporting.files.items
+ReadsAsked (asked.Salvage salvaging) = ReadsWord salvaging.file.now
+ReadsAsked (asked.View viewing) = ReadsWord viewing.file.now
+ReadsAsked (asked.Unpack unpacking file) = ReadsWord file.now
+ReadsAsked (asked.Page paging) = ReadsWords paging.files.items
+ReadsAsked (asked.Find finding) = WritesNothing
 ReadsAsked (asked.Change change) = ReadsWork change
 ReadsAsked (asked.Tell text) = ReadsNothing
 

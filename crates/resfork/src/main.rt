@@ -8,32 +8,28 @@ ghost use Rattle.resfork.specs.Running.{ChangesAsked, ReadsAsked, only_reads};
 ghost use Rattle.std.specs.Prelude.{◌≡◌, ◌≤◌, true};
 
 mod lines;
-mod page;
-mod report;
 mod rez;
-mod salvage;
-mod several;
-mod show;
-mod table_use;
 mod texts;
 mod unlisted;
-mod view;
 mod work;
 
 use file_acts::acts::{Acts, write_out};
 use file_acts::host::Host;
 use file_acts::message::{BAD_WORDS, CANT_GO_ON, DONE, finish, tell_bad_words};
 use fork_disk::{Unknown, World};
+use fork_shows::find::find_all;
+use fork_shows::failed::Failed;
+use fork_shows::outside::check_outputs;
+use fork_shows::page::write_page;
+use fork_shows::report::report_all;
+use fork_shows::salvage::salvage_file;
+use fork_shows::show::show_all;
+use fork_shows::table_use::use_table;
 use fork_words::asked::{Asked, Command, NotAsked, asked_by};
 use lines::with_words_in_lines;
-use page::write_page;
-use report::report_all;
-use salvage::salvage_file;
-use show::show_all;
 use std::io::ErrorKind;
 use std::process::ExitCode;
 use std::{env, io};
-use table_use::use_table;
 use work::run_work;
 
 fn main(rt: HostRuntime) -> ExitCode {
@@ -62,12 +58,25 @@ fn run(rt: &HostRuntime) -> u8
     }
 }
 
-/// Does what is asked for. The result is the exit status.
+/// Does what is asked for, unless something would be written in a disk image. The result is the exit status.
 fn run_asked<W: World>(host: &Host<'_>, asked: Asked<'_>, acts: &mut Acts) -> u8
     ensures few { result ≤ CANT_GO_ON }
     ensures quiet { only_reads asked.entry ≡ true → ReadsAsked asked.entry acts.old.events acts.new.events }
     // A command that changes files ends with status 0 only after the last one was saved, or had nothing to change; and
     // whatever it printed, it had saved a file just before.
+    ensures saved { ChangesAsked asked.entry → result ≡ DONE → EndsSaved acts.new.events }
+    ensures seen { ChangesAsked asked.entry → ShowsSaved acts.old.events acts.new.events }
+{
+    match check_outputs(host, &asked, acts) {
+        Ok(()) => do_asked::<W>(host, asked, acts),
+        Err(Failed { file, problem }) => finish(host, file, Err(problem)),
+    }
+}
+
+/// The same where nothing is to be written in a disk image.
+fn do_asked<W: World>(host: &Host<'_>, asked: Asked<'_>, acts: &mut Acts) -> u8
+    ensures few { result ≤ CANT_GO_ON }
+    ensures quiet { only_reads asked.entry ≡ true → ReadsAsked asked.entry acts.old.events acts.new.events }
     ensures saved { ChangesAsked asked.entry → result ≡ DONE → EndsSaved acts.new.events }
     ensures seen { ChangesAsked asked.entry → ShowsSaved acts.old.events acts.new.events }
 {
@@ -80,6 +89,7 @@ fn run_asked<W: World>(host: &Host<'_>, asked: Asked<'_>, acts: &mut Acts) -> u8
             finish(host, file, use_table(host, file, &unpacking, acts))
         }
         Asked::Page(asked) => write_page(host, &asked, acts),
+        Asked::Find(asked) => find_all(host, &asked, acts),
         Asked::Change(work) => run_work(host, work, acts),
         Asked::Tell(text) => tell(host, text, acts),
     }

@@ -1,15 +1,21 @@
 //! Resources as a text, and the fork of a text; and the fork of a folder to which resources were unpacked.
 
-ghost use Rattle.std.specs.Prelude.{◌≡◌, IfOk, true};
-ghost use Rattle.file_acts.specs.Acts.{ReadsOnly, WritesNothing};
+ghost use Rattle.std.specs.Prelude.{◌≡◌, ◌||◌, ◌∷◌, ℕ, Err, IfErr, IfOk, List, Ok, bytes_eq, codes, not, true};
+ghost use Rattle.fork_bytes.specs.declared.table.Table.{Table};
+ghost use Rattle.fork_rez.specs.Said.{made_table};
+ghost use Rattle.host_paths.specs.declared.host.Answer.{Answer};
+ghost use Rattle.mac_files.specs.Kinds.{is_alone, kind_of};
+ghost use Rattle.file_acts.specs.declared.acts.Act.TheVariants as act;
+ghost use Rattle.resfork.specs.Ends.{ChecksAt, ChecksFree, Delivers, IsFileLike, IsFree, IsRezzed, PacksLike, PutsRows, Rezzes, RezzesText, WritesAndSays, WritesNew, WritesTable, ended, leads_to_file, like_bytes, with_advice};
+ghost use Rattle.file_acts.specs.Acts.{WritesNothing};
+ghost use Rattle.image_acts.specs.Words.{ReadsWord};
 ghost use Rattle.file_acts.specs.Saved.{SavedAndSaid, ShowsSaved};
 ghost use Rattle.fork_saves.specs.Saving.{EndsSaved};
 ghost use Rattle.fork_saves.specs.Changing.{IsForFile, IsForOther};
 ghost use Rattle.resfork.specs.Running.{IsForPlace, is_dry_place};
 
-use crate::table_use::{TableUse, check_kinds, use_table};
 use crate::unlisted::with_unlisted;
-use crate::work::{Failed, copy_rows, file_at_fault, of_file};
+use crate::work::{copy_rows, file_at_fault};
 use file_acts::acts::{Acts, look_at, print};
 use file_acts::host::{Host, OUTPUT};
 use file_acts::input::{read, read_front, read_other, unread};
@@ -23,8 +29,10 @@ use fork_folder::manifest::{Packing as Manifest, manifest_of};
 use fork_folder::rows::{Entry, packed};
 use fork_list::Quoted;
 use fork_list::letters::Letters;
-use fork_rez::{derez, rez};
+use fork_rez::rez;
+use fork_rez::table::Made;
 use fork_saves::change::{say, write_output, written_file};
+use fork_shows::failed::{Failed, of_file};
 use fork_words::work::{Copying, Packing, Place, Rezzing, Target};
 use mac_base::resource::ResType;
 use mac_files::kind_of;
@@ -41,40 +49,15 @@ const MOST_BYTES: usize = MAX_BYTES as usize;
 /// The bytes of files, by their paths.
 type Files = BTreeMap<String, Vec<u8>>;
 
-/// Resources of these types, or all where there are none, are written as a text.
-#[derive(Clone, Copy)]
-struct Derez<'a>(&'a [ResType]);
-
-impl TableUse for Derez<'_> {
-    ghost use Rattle.std.specs.Prelude.{⊤};
-
-    ghost only_reads = { λ _. ⊤ };
-
-    fn apply(
-        &self,
-        host: &Host<'_>,
-        _bytes: &[u8],
-        table: &Table<'_>,
-        acts: &mut Acts,
-    ) -> Result<u8, Problem> {
-        check_kinds(self.0, table.rows.as_slice())?;
-        let text = derez(host.alloc(), self.0, table)?;
-        print(host, &text, acts)?;
-        Ok(DONE)
-    }
-}
-
-/// Writes resources of a file as a text.
-pub fn derez_file(
-    host: &Host<'_>,
-    file: &str,
-    kinds: &[ResType],
-    acts: &mut Acts,
-) -> Result<u8, Problem>
-    ensures done { IfOk result (λ status. status ≡ DONE) }
-    ensures quiet { ReadsOnly file.now acts.old.events acts.new.events }
+/// The table of a text, and what it is made of.
+fn made_of(alloc: Global, text: &[u8]) -> Result<Made, Problem>
+    ensures made { IfOk result (λ made. IsRezzed text.now (Ok (made_table made))) }
+    ensures none { IfErr result (λ why. IsRezzed text.now (Err why)) }
 {
-    use_table(host, file, &Derez(kinds), acts)
+    match rez(alloc, text) {
+        Ok(made) => Ok(made),
+        Err(fault) => Err(Problem::Rez(fault)),
+    }
 }
 
 /// Writes a fork of a text, or puts its resources into a file.
@@ -84,11 +67,30 @@ pub fn rez_file<'a>(host: &Host<'_>, asked: Rezzing<'a>, acts: &mut Acts) -> Res
     ensures saved { IsForPlace asked.entry.place → IfOk result (λ _. EndsSaved acts.new.events) }
     ensures seen { IsForPlace asked.entry.place → ShowsSaved acts.old.events acts.new.events }
 {
-    let alloc = host.alloc();
+    let text = of_file(asked.text, read(host, asked.text, acts))?;
+    rez_text(host, asked, &text, acts)
+}
+
+/// The same of this text.
+fn rez_text<'a>(
+    host: &Host<'_>,
+    asked: Rezzing<'a>,
+    text: &[u8],
+    acts: &mut Acts,
+) -> Result<u8, Failed<'a>>
+    ensures done { IfOk result (λ status. status ≡ DONE) }
+    ensures dry { is_dry_place asked.entry.place ≡ true → WritesNothing acts.old.events acts.new.events }
+    ensures saved { IsForPlace asked.entry.place → IfOk result (λ _. EndsSaved acts.new.events) }
+    ensures seen { IsForPlace asked.entry.place → ShowsSaved acts.old.events acts.new.events }
+{
     let source = asked.text;
-    let text = of_file(source, read(host, source, acts))?;
-    let made = of_file(source, rez(alloc, &text).map_err(Problem::Rez))?;
-    let table = of_file(source, made.table(alloc).map_err(Problem::from))?;
+    let made = of_file(source, made_of(host.alloc(), text))?;
+    let Ok(table) = made.table(host.alloc()) else {
+        return Err(Failed {
+            file: source,
+            problem: Problem::HostFull,
+        });
+    };
     deliver(host, source, asked.place, None, &table, acts)
 }
 
@@ -97,6 +99,16 @@ pub fn rez_file<'a>(host: &Host<'_>, asked: Rezzing<'a>, acts: &mut Acts) -> Res
 pub struct Like<'a, 'b> {
     pub name: &'a str,
     pub bytes: &'b [u8],
+}
+
+/// The bytes of a file that another one is to be like; none where it is to be like none.
+fn like_bytes<'b>(like: &Option<Like<'_, 'b>>) -> &'b [u8]
+    ensures { result.now ≡ like_bytes like.now }
+{
+    match like {
+        Some(like) => like.bytes,
+        None => &[],
+    }
 }
 
 /// Puts the resources of a table where they go.
@@ -115,11 +127,7 @@ fn deliver<'a>(
 {
     match place {
         Place::New { target, is_forced } => {
-            let bytes: &[u8] = match like {
-                Some(like) => like.bytes,
-                None => &[],
-            };
-            match write_table(host, &target, is_forced, bytes, table, acts) {
+            match write_table(host, &target, is_forced, like_bytes(&like), table, acts) {
                 Ok(status) => Ok(status),
                 Err(problem) => Err(Failed {
                     file: file_at_fault(like.map(|like| like.name), source, &problem),
@@ -180,7 +188,9 @@ fn put_rows<'a>(
 }
 
 /// What is in the way, with what can be done where a resource is there already.
-fn with_advice(failed: Failed<'_>) -> Failed<'_> {
+fn with_advice(failed: Failed<'_>) -> Failed<'_>
+    ensures { Err result.problem ≡ with_advice (Err failed.entry.problem) }
+{
     match failed {
         Failed {
             file,
@@ -194,43 +204,76 @@ fn with_advice(failed: Failed<'_>) -> Failed<'_> {
 }
 
 /// Whether bytes are those of a file that has more than a resource fork.
-fn is_container(bytes: &[u8]) -> bool {
+fn is_container(bytes: &[u8]) -> bool
+    ensures { result ≡ not (is_alone (kind_of bytes.now)) }
+{
     !kind_of(bytes).is_alone()
 }
 
 /// Refuses to write a new file with a table over a file that has more than a resource fork, unless the new one has all
-/// that, too; or that has resources which the new one lacks, or that can't be looked at.
+/// that, too; or that has resources which the new one lacks, or that can't be looked at. The standard output is free, and
+/// so is a file that may lose what it has.
 fn check_free(
     host: &Host<'_>,
+    is_free: bool,
     name: &str,
     table: &Table<'_>,
     new: &[u8],
     acts: &mut Acts,
 ) -> Result<(), Problem>
+    ensures does { ChecksFree is_free name.now table.now new.now result acts.old.events acts.new.events }
     ensures quiet { WritesNothing acts.old.events acts.new.events }
     ensures seen { ShowsSaved acts.old.events acts.new.events }
 {
-    if name == OUTPUT {
+    if is_free {
         return Ok(());
     }
-    match look_at(host, name, acts) {
-        Ok(Some(found)) if found.is_regular() => {
-            let bytes = read_other(host, name, acts)?;
-            check_bytes(host, name, &bytes, table, new)
-        }
-        _ => Ok(()),
+    let is_file = leads_to_file(host, name, acts);
+    check_at(host, is_file, name, table, new, acts)
+}
+
+/// Whether a path leads to a regular file.
+fn leads_to_file(host: &Host<'_>, path: &str, acts: &mut Acts) -> bool
+    ensures does { (answer : Answer) × (result ≡ leads_to_file answer) × (acts.new.events ≡ act.Asked path.now answer ∷ acts.old.events) }
+    ensures quiet { WritesNothing acts.old.events acts.new.events }
+    ensures seen { ShowsSaved acts.old.events acts.new.events }
+{
+    match look_at(host, path, acts) {
+        Ok(Some(found)) => found.is_regular(),
+        Ok(None) | Err(_) => false,
     }
+}
+
+/// The same of a path, by whether it leads to a regular file.
+fn check_at(
+    host: &Host<'_>,
+    is_file: bool,
+    name: &str,
+    table: &Table<'_>,
+    new: &[u8],
+    acts: &mut Acts,
+) -> Result<(), Problem>
+    ensures does { ChecksAt is_file name.now table.now new.now result acts.old.events acts.new.events }
+    ensures quiet { WritesNothing acts.old.events acts.new.events }
+    ensures seen { ShowsSaved acts.old.events acts.new.events }
+{
+    if !is_file {
+        return Ok(());
+    }
+    let bytes = read_other(host, name, acts)?;
+    check_bytes(host.alloc(), name, &bytes, table, new)
 }
 
 /// The same of a file with these bytes.
 fn check_bytes(
-    host: &Host<'_>,
+    alloc: Global,
     name: &str,
     bytes: &[u8],
     table: &Table<'_>,
     new: &[u8],
-) -> Result<(), Problem> {
-    let alloc = host.alloc();
+) -> Result<(), Problem>
+    ensures { IsFree bytes.now table.now new.now result }
+{
     if is_container(bytes) && !keeps_others(alloc, bytes, table, new)? {
         return Err(Problem::Container(String::from_str(alloc, name)?));
     }
@@ -240,24 +283,6 @@ fn check_bytes(
         Lost::Resources(count) => Err(Problem::Lacking { path, count }),
         Lost::Unknown => Err(Problem::NotFork(path)),
     }
-}
-
-/// The same, unless the file may lose what it has.
-fn check_unless(
-    host: &Host<'_>,
-    is_forced: bool,
-    name: &str,
-    table: &Table<'_>,
-    new: &[u8],
-    acts: &mut Acts,
-) -> Result<(), Problem>
-    ensures quiet { WritesNothing acts.old.events acts.new.events }
-    ensures seen { ShowsSaved acts.old.events acts.new.events }
-{
-    if is_forced {
-        return Ok(());
-    }
-    check_free(host, name, table, new, acts)
 }
 
 /// The first row that is apart from one before it of its type.
@@ -275,7 +300,9 @@ fn apart<'r, 'a>(alloc: Global, rows: &'r [Row<'a>]) -> Result<Option<&'r Row<'a
 }
 
 /// Refuses rows of which some of one type are apart: a fork can't say so.
-fn check_together(alloc: Global, rows: &[Row<'_>]) -> Result<(), Problem> {
+fn check_together(alloc: Global, rows: &[Row<'_>]) -> Result<(), Problem>
+    ensures { IfErr result (λ why. (like : List ℕ) (table : Table) → IsFileLike like table (Err why)) }
+{
     let Some(row) = apart(alloc, rows)? else {
         return Ok(());
     };
@@ -295,17 +322,32 @@ fn write_table(
     table: &Table<'_>,
     acts: &mut Acts,
 ) -> Result<u8, Problem>
+    ensures does { WritesTable target.now is_forced like.now table.now result acts.old.events acts.new.events }
     ensures done { IfOk result (λ status. status ≡ DONE) }
     ensures dry { target.now.is_dry ≡ true → WritesNothing acts.old.events acts.new.events }
     ensures saved { IsForOther target.now → IfOk result (λ _. EndsSaved acts.new.events) }
     ensures seen { IsForOther target.now → ShowsSaved acts.old.events acts.new.events }
 {
-    let alloc = host.alloc();
+    let file = file_like(host.alloc(), like, table)?;
+    write_new(host, target, is_forced, table, &file, acts)
+}
+
+/// A file like another one, with a table as that of its resource fork.
+fn file_like(alloc: Global, like: &[u8], table: &Table<'_>) -> Result<Vec<u8>, Problem>
+    ensures { IsFileLike like.now table.now result }
+{
     check_together(alloc, table.rows.as_slice())?;
     match with_table(alloc, like, table) {
-        Ok(file) => write_new(host, target, is_forced, table, &file, acts),
+        Ok(file) => Ok(file),
         Err(fault) => Err(Problem::Write(fault)),
     }
+}
+
+/// Whether what is written at a path may lose what is there: that is forced, or it is the standard output.
+fn may_lose(is_forced: bool, path: &str) -> bool
+    ensures { result ≡ is_forced || bytes_eq path.now (codes "-") }
+{
+    is_forced || path == OUTPUT
 }
 
 /// Writes a new file with a table. A file that is there loses nothing, unless that is forced.
@@ -317,12 +359,14 @@ fn write_new(
     file: &[u8],
     acts: &mut Acts,
 ) -> Result<u8, Problem>
+    ensures does { WritesNew target.now is_forced table.now file.now result acts.old.events acts.new.events }
     ensures done { IfOk result (λ status. status ≡ DONE) }
     ensures dry { target.now.is_dry ≡ true → WritesNothing acts.old.events acts.new.events }
     ensures saved { IsForOther target.now → IfOk result (λ _. SavedAndSaid file.now acts.new.events) }
     ensures seen { IsForOther target.now → ShowsSaved acts.old.events acts.new.events }
 {
-    check_unless(host, is_forced, written_file(target), table, file, acts)?;
+    let path = written_file(target);
+    check_free(host, may_lose(is_forced, path), path, table, file, acts)?;
     let count = table.rows.as_slice().len();
     write_and_tell(host, target, count, file, acts)
 }
@@ -335,6 +379,7 @@ fn write_and_tell(
     file: &[u8],
     acts: &mut Acts,
 ) -> Result<u8, Problem>
+    ensures does { WritesAndSays target.now file.now result acts.old.events acts.new.events }
     ensures done { IfOk result (λ status. status ≡ DONE) }
     ensures dry { target.now.is_dry ≡ true → WritesNothing acts.old.events acts.new.events }
     ensures saved { IsForOther target.now → IfOk result (λ _. SavedAndSaid file.now acts.new.events) }

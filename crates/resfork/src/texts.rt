@@ -1,134 +1,120 @@
-//! The texts of a file as lines, and lines that take their place.
+//! Lines that take the place of the texts of a file.
 
 ghost use Rattle.std.specs.Prelude.{◌≡◌, IfOk, true};
-ghost use Rattle.file_acts.specs.Acts.{ReadsNothing, ReadsOnly, WritesNothing};
+ghost use Rattle.file_acts.specs.Acts.{WritesNothing};
 ghost use Rattle.file_acts.specs.Saved.{ShowsSaved};
+ghost use Rattle.fork_saves.specs.Changing.{IsForFile, IsJustRead, IsOpenedFor};
 ghost use Rattle.fork_saves.specs.Saving.{EndsSaved};
-ghost use Rattle.fork_saves.specs.Changing.{IsForFile};
 
-use crate::table_use::{TableUse, use_table};
-use crate::work::{Failed, of_file};
-use file_acts::acts::{Acts, write_text};
+use crate::work::can_copy;
+use file_acts::acts::Acts;
 use file_acts::found::{fork_found, table_found};
 use file_acts::host::Host;
 use file_acts::input::read;
 use file_acts::message::{DONE, Problem};
-use fork_bytes::table::{Row, Table};
-use fork_change::row::ResourceId;
-use fork_change::{Choice, Collision, second_of};
+use fork_bytes::table::Row;
+use fork_change::{Choice, Collision};
+use fork_disk::Unknown;
 use fork_edit::edit::Edit;
-use fork_list::KindText;
-use fork_list::letters::Letters;
-use fork_saves::change::change_file;
-use fork_texts::{TextType, rows_of, text_types, texts_of};
+use fork_saves::change::change_source;
+use fork_saves::source::Source;
+use fork_shows::failed::{Failed, of_file};
+use fork_texts::{rows_of, text_types};
 use fork_words::texts::PuttingTexts;
 use fork_words::work::Target;
+use image_acts::check_outside;
 use mac_base::resource::Resource;
-use path_text::FileName;
 use res_types::value::Text;
-
-/// The texts of the file of this name are written as lines.
-#[derive(Clone, Copy)]
-struct Texts<'a>(&'a str);
-
-impl TableUse for Texts<'_> {
-    ghost use Rattle.std.specs.Prelude.{⊤};
-
-    ghost only_reads = { λ _. ⊤ };
-
-    fn apply(
-        &self,
-        host: &Host<'_>,
-        _bytes: &[u8],
-        table: &Table<'_>,
-        acts: &mut Acts,
-    ) -> Result<u8, Problem> {
-        let rows = table.rows.as_slice();
-        check_once(host, rows)?;
-        let types = text_types(host.alloc())?;
-        let listed = texts_of(host.alloc(), &types, rows)?;
-        write_text(host, &listed.lines, acts)?;
-        tell_odd(host, self.0, &listed.odd);
-        Ok(DONE)
-    }
-}
-
-/// Says which resources have bytes that aren't of their type.
-fn tell_odd(host: &Host<'_>, file: &str, odd: &[ResourceId]) {
-    let file = FileName(file);
-    for what in odd {
-        let kind = KindText::new(Letters::Roman, what.kind);
-        let id = what.id;
-        let _ = eprintln!(host.rt;
-            "{file}: {kind} {id}: its bytes aren't of this type, and its texts aren't shown"
-        );
-    }
-}
-
-/// Whether no two rows have one type and id.
-fn check_once(host: &Host<'_>, rows: &[Row<'_>]) -> Result<(), Problem> {
-    match second_of(host.alloc(), &[Choice::All], rows)? {
-        Some(_) => Err(Problem::Twice),
-        None => Ok(()),
-    }
-}
-
-/// Writes the texts of a file as lines.
-pub fn list_texts(host: &Host<'_>, file: &str, acts: &mut Acts) -> Result<u8, Problem>
-    ensures done { IfOk result (λ status. status ≡ DONE) }
-    ensures quiet { ReadsOnly file.now acts.old.events acts.new.events }
-{
-    use_table(host, file, &Texts(file), acts)
-}
+use std::alloc::Global;
 
 /// The rows of a file that change where lines take the place of its texts.
 fn rows_put<'a>(
-    host: &Host<'_>,
+    alloc: Global,
     asked: PuttingTexts<'a>,
     lines: &[u8],
     bytes: &[u8],
-) -> Result<Vec<Resource<Text>>, Failed<'a>> {
-    let alloc = host.alloc();
+) -> Result<Vec<Resource<Text>>, Failed<'a>>
+{
     let file = asked.target.file;
     let found = of_file(file, fork_found(alloc, bytes))?;
     let table = of_file(file, table_found(alloc, &found, bytes))?;
     let rows = table.rows.as_slice();
-    of_file(file, check_once(host, rows))?;
-    let types = of_file(file, text_types(alloc).map_err(Problem::from))?;
-    of_file(asked.lines, put_lines(host, &types, rows, lines))
+    of_file(file, can_copy(alloc, &[Choice::All], rows))?;
+    of_file(asked.lines, put_lines(alloc, rows, lines))
 }
 
 /// The rows of these that change where these lines take the place of their texts.
-fn put_lines(
-    host: &Host<'_>,
-    types: &[TextType],
-    rows: &[Row<'_>],
-    lines: &[u8],
-) -> Result<Vec<Resource<Text>>, Problem> {
+fn put_lines(alloc: Global, rows: &[Row<'_>], lines: &[u8]) -> Result<Vec<Resource<Text>>, Problem>
+{
+    let types = text_types(alloc)?;
     let Ok(lines) = str::from_utf8(lines) else {
-        return Err(Problem::NoText(String::from_str(host.alloc(), "it")?));
+        return Err(Problem::NoText(String::from_str(alloc, "it")?));
     };
-    fork_texts::put_texts(host.alloc(), types, rows, lines).map_err(Problem::Texts)
+    match fork_texts::put_texts(alloc, &types, rows, lines) {
+        Ok(changed) => Ok(changed),
+        Err(fault) => Err(Problem::Texts(fault)),
+    }
 }
 
-/// Changes a file, of which these rows take the place of those with their types and ids.
+/// Changes a file that was opened, of which these rows take the place of those with their types and ids.
 fn put_rows(
     host: &Host<'_>,
     target: &Target<'_>,
+    source: Source,
     changed: &[Resource<Text>],
     acts: &mut Acts,
 ) -> Result<u8, Problem>
+    requires { IsOpenedFor target.now source }
     ensures done { IfOk result (λ status. status ≡ DONE) }
     ensures dry { target.now.is_dry ≡ true → WritesNothing acts.old.events acts.new.events }
-    ensures saved { IsForFile target.now → IfOk result (λ _. EndsSaved acts.new.events) }
-    ensures seen { IsForFile target.now → ShowsSaved acts.old.events acts.new.events }
+    ensures saved { IsForFile target.now → IsJustRead source acts.old.events → IfOk result (λ _. EndsSaved acts.new.events) }
+    ensures seen { IsForFile target.now → IsJustRead source acts.old.events → ShowsSaved acts.old.events acts.new.events }
 {
     let rows = rows_of(host.alloc(), changed)?;
     let edit = Edit::Copy {
         chosen: &[Choice::All],
         on_collision: Collision::Replace,
     };
-    change_file(host, target, rows.as_slice(), edit, acts)
+    change_source(host, target, source, rows.as_slice(), edit, acts)
+}
+
+/// Puts lines in the place of the texts of a file that was opened: the rows come of the bytes that were read of it.
+fn put_in<'a>(
+    host: &Host<'_>,
+    asked: PuttingTexts<'a>,
+    lines: &[u8],
+    source: Source,
+    acts: &mut Acts,
+) -> Result<u8, Failed<'a>>
+    requires { IsOpenedFor asked.target source }
+    ensures done { IfOk result (λ status. status ≡ DONE) }
+    ensures dry { asked.entry.target.is_dry ≡ true → WritesNothing acts.old.events acts.new.events }
+    ensures saved { IsForFile asked.entry.target → IsJustRead source acts.old.events → IfOk result (λ _. EndsSaved acts.new.events) }
+    ensures seen { IsForFile asked.entry.target → IsJustRead source acts.old.events → ShowsSaved acts.old.events acts.new.events }
+{
+    let changed = rows_put(host.alloc(), asked, lines, source.bytes())?;
+    of_file(
+        asked.target.file,
+        put_rows(host, &asked.target, source, &changed, acts),
+    )
+}
+
+/// Puts these lines in the place of the texts of a file, which is opened once.
+fn put_text<'a>(
+    host: &Host<'_>,
+    asked: PuttingTexts<'a>,
+    lines: &[u8],
+    acts: &mut Acts,
+) -> Result<u8, Failed<'a>>
+    ensures done { IfOk result (λ status. status ≡ DONE) }
+    ensures dry { asked.entry.target.is_dry ≡ true → WritesNothing acts.old.events acts.new.events }
+    ensures saved { IsForFile asked.entry.target → IfOk result (λ _. EndsSaved acts.new.events) }
+    ensures seen { IsForFile asked.entry.target → ShowsSaved acts.old.events acts.new.events }
+{
+    let file = asked.target.file;
+    of_file(file, check_outside::<Unknown>(host, file, acts))?;
+    let source = of_file(file, Source::open(host, &asked.target, acts))?;
+    put_in(host, asked, lines, source, acts)
 }
 
 /// Puts lines in the place of the texts of a file.
@@ -143,10 +129,5 @@ pub fn put_texts<'a>(
     ensures seen { IsForFile asked.entry.target → ShowsSaved acts.old.events acts.new.events }
 {
     let lines = of_file(asked.lines, read(host, asked.lines, acts))?;
-    let bytes = of_file(asked.target.file, read(host, asked.target.file, acts))?;
-    let changed = rows_put(host, asked, &lines, &bytes)?;
-    of_file(
-        asked.target.file,
-        put_rows(host, &asked.target, &changed, acts),
-    )
+    put_text(host, asked, &lines, acts)
 }

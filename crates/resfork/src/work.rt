@@ -1,39 +1,38 @@
-//! What the commands do that change files, and those that compare them.
+//! What the commands do that change files.
 
-ghost use Rattle.std.specs.Prelude.{◌≡◌, ◌≢◌, ◌≤◌, IfErr, IfOk, Ok, Err, option_map, true};
-ghost use Rattle.file_acts.specs.Acts.{ReadsBoth, ReadsNothing, ReadsOnly, WritesNothing};
+ghost use Rattle.std.specs.List.{find};
+ghost use Rattle.std.specs.Prelude.{◌≡◌, ◌≤◌, IfOk, option_map, true};
+ghost use Rattle.fork_change.specs.Copies.{is_unmet};
+ghost use Rattle.file_acts.specs.Acts.{WritesNothing};
 ghost use Rattle.resfork.specs.Faults.{file_at_fault};
 ghost use Rattle.file_acts.specs.Saved.{ShowsSaved};
 ghost use Rattle.fork_saves.specs.Saving.{EndsSaved};
-ghost use Rattle.fork_saves.specs.Changing.{IsForFile};
+ghost use Rattle.fork_saves.specs.Changing.{IsForFile, IsForNew};
+ghost use Rattle.resfork.specs.Ends.{CanCopy, ChangesOutside, CopiesChosen, CopiesRows, ended, unmet_why};
 ghost use Rattle.resfork.specs.Running.{ChangesFiles, IsForPlace, ReadsWork, is_dry_place, writes_nothing};
 
-use crate::rez::{Like, derez_file, pack_folder, rez_file};
-use crate::texts::{list_texts, put_texts};
-use file_acts::acts::{Acts, look_at, write_text};
+use crate::rez::{Like, pack_folder, rez_file};
+use crate::texts::put_texts;
+use file_acts::acts::{Acts, look_at};
 use file_acts::found::{fork_found, table_found};
 use file_acts::host::Host;
-use file_acts::input::read;
+use file_acts::input;
 use file_acts::message::{CANT_GO_ON, DONE, NOT_FOUND, Problem, finish};
-use fork_bytes::table::{Row, Table};
-use fork_change::{Choice, Differences, Refusal};
-use fork_edit::difference::text_of;
+use fork_bytes::table::Row;
+use fork_change::{Choice, Refusal};
+use fork_disk::Unknown;
 use fork_edit::edit::{Edit, second_of, unmet};
 use fork_edit::file::NotWritten;
-use fork_report::{Form, difference_line};
 use fork_saves::change::{change_file, create_file};
 use fork_saves::convert::convert;
+use fork_shows::compare::compare;
+use fork_shows::derez::derez_file;
+use fork_shows::failed::{Failed, of_file};
+use fork_shows::texts::list_texts;
 use fork_words::INPUT;
-use fork_words::work::{Comparison, Copying, Packing, Putting, Removing, Setting, Target, Work};
-use mac_base::error::HostFull;
+use fork_words::work::{Conversion, Copying, Packing, Putting, Removing, Setting, Target, Work};
+use image_acts::{check_outside, read};
 use std::alloc::Global;
-
-/// A file, and why it is in the way.
-#[derive(Drop)]
-pub struct Failed<'a> {
-    pub file: &'a str,
-    pub problem: Problem,
-}
 
 /// Does what is asked for. The result is the exit status.
 pub fn run_work(host: &Host<'_>, work: Work<'_>, acts: &mut Acts) -> u8
@@ -45,17 +44,6 @@ pub fn run_work(host: &Host<'_>, work: Work<'_>, acts: &mut Acts) -> u8
     match try_work(host, work, acts) {
         Ok(status) => status,
         Err(Failed { file, problem }) => finish(host, file, Err(problem)),
-    }
-}
-
-/// What was done with a file, or that it is in the way.
-pub fn of_file<'a, T>(file: &'a str, done: Result<T, Problem>) -> Result<T, Failed<'a>>
-    ensures value { IfOk result (λ value. done ≡ Ok value) }
-    ensures problem { IfErr result (λ failed. done ≡ Err failed.problem) }
-{
-    match done {
-        Ok(value) => Ok(value),
-        Err(problem) => Err(Failed { file, problem }),
     }
 }
 
@@ -78,7 +66,7 @@ fn try_work<'a>(host: &Host<'_>, work: Work<'a>, acts: &mut Acts) -> Result<u8, 
         ),
         Work::Rez(asked) => rez_file(host, asked, acts),
         Work::Pack(asked) => pack(host, asked, acts),
-        Work::Convert(asked) => of_file(asked.target.file, convert(host, &asked, acts)),
+        Work::Convert(asked) => of_file(asked.target.file, convert_file(host, &asked, acts)),
         Work::Texts(file) => of_file(file, list_texts(host, file, acts)),
         Work::PutTexts(asked) => put_texts(host, asked, acts),
     }
@@ -92,7 +80,7 @@ fn put<'a>(host: &Host<'_>, asked: Putting<'a>, acts: &mut Acts) -> Result<u8, F
     ensures seen { IsForFile asked.entry.target → ShowsSaved acts.old.events acts.new.events }
 {
     let input = asked.input.unwrap_or(INPUT);
-    let bytes = of_file(input, read(host, input, acts))?;
+    let bytes = of_file(input, input::read(host, input, acts))?;
     of_file(asked.target.file, put_bytes(host, asked, &bytes, acts))
 }
 
@@ -126,7 +114,7 @@ fn remove<'a>(host: &Host<'_>, asked: &Removing<'a>, acts: &mut Acts) -> Result<
     let edit = Edit::Remove(asked.whats.as_slice());
     of_file(
         asked.target.file,
-        change_file(host, &asked.target, &[], edit, acts),
+        change(host, &asked.target, &[], edit, acts),
     )
 }
 
@@ -142,7 +130,7 @@ fn set<'a>(host: &Host<'_>, asked: Setting<'a>, acts: &mut Acts) -> Result<u8, F
         what: asked.what,
         change: asked.change,
     };
-    of_file(target.file, change_file(host, &target, &[], edit, acts))
+    of_file(target.file, change(host, &target, &[], edit, acts))
 }
 
 /// Copies resources of a file to another.
@@ -153,9 +141,25 @@ fn copy_from<'a>(host: &Host<'_>, asked: &Copying<'a>, acts: &mut Acts) -> Resul
     ensures seen { IsForFile asked.now.target → ShowsSaved acts.old.events acts.new.events }
 {
     let from = asked.from;
-    let bytes = of_file(from, read(host, from, acts))?;
-    let found = of_file(from, fork_found(host.alloc(), &bytes))?;
-    let table = of_file(from, table_found(host.alloc(), &found, &bytes))?;
+    let bytes = of_file(from, read::<Unknown>(host, from, acts))?;
+    copy_in(host, asked, &bytes, acts)
+}
+
+/// Copies resources of a file with these bytes to another.
+fn copy_in<'a>(
+    host: &Host<'_>,
+    asked: &Copying<'a>,
+    bytes: &[u8],
+    acts: &mut Acts,
+) -> Result<u8, Failed<'a>>
+    ensures done { IfOk result (λ status. status ≡ DONE) }
+    ensures dry { asked.now.target.is_dry ≡ true → WritesNothing acts.old.events acts.new.events }
+    ensures saved { IsForFile asked.now.target → IfOk result (λ _. EndsSaved acts.new.events) }
+    ensures seen { IsForFile asked.now.target → ShowsSaved acts.old.events acts.new.events }
+{
+    let from = asked.from;
+    let found = of_file(from, fork_found(host.alloc(), bytes))?;
+    let table = of_file(from, table_found(host.alloc(), &found, bytes))?;
     copy_rows(host, asked, table.rows.as_slice(), acts)
 }
 
@@ -166,97 +170,73 @@ pub fn copy_rows<'a>(
     rows: &[Row<'_>],
     acts: &mut Acts,
 ) -> Result<u8, Failed<'a>>
+    ensures does { CopiesRows asked.now.target asked.now.chosen.items asked.now.on_collision rows.now (ended result) acts.old.events acts.new.events }
     ensures done { IfOk result (λ status. status ≡ DONE) }
     ensures dry { asked.now.target.is_dry ≡ true → WritesNothing acts.old.events acts.new.events }
     ensures saved { IsForFile asked.now.target → IfOk result (λ _. EndsSaved acts.new.events) }
     ensures seen { IsForFile asked.now.target → ShowsSaved acts.old.events acts.new.events }
 {
-    let chosen = asked.chosen.as_slice();
-    of_file(asked.from, can_copy(host, chosen, rows))?;
+    of_file(
+        asked.from,
+        can_copy(host.alloc(), asked.chosen.as_slice(), rows),
+    )?;
+    of_file(asked.target.file, copy_chosen(host, asked, rows, acts))
+}
+
+/// The same, where they can be copied.
+fn copy_chosen(
+    host: &Host<'_>,
+    asked: &Copying<'_>,
+    rows: &[Row<'_>],
+    acts: &mut Acts,
+) -> Result<u8, Problem>
+    ensures does { CopiesChosen asked.now.target asked.now.chosen.items asked.now.on_collision rows.now result acts.old.events acts.new.events }
+    ensures done { IfOk result (λ status. status ≡ DONE) }
+    ensures dry { asked.now.target.is_dry ≡ true → WritesNothing acts.old.events acts.new.events }
+    ensures saved { IsForFile asked.now.target → IfOk result (λ _. EndsSaved acts.new.events) }
+    ensures seen { IsForFile asked.now.target → ShowsSaved acts.old.events acts.new.events }
+{
     let edit = Edit::Copy {
-        chosen,
+        chosen: asked.chosen.as_slice(),
         on_collision: asked.on_collision,
     };
-    of_file(
-        asked.target.file,
-        change_file(host, &asked.target, rows, edit, acts),
-    )
+    change(host, &asked.target, rows, edit, acts)
+}
+
+/// What is reported of the first choice that means no row, if there is one.
+fn unmet_why(chosen: &[Choice], rows: &[Row<'_>]) -> Option<Problem>
+    ensures { result ≡ unmet_why (find (is_unmet rows.now) chosen.now) }
+{
+    match unmet(chosen, rows) {
+        Some(Choice::One(what)) => Some(Problem::Edit(Refusal::Missing(*what))),
+        Some(Choice::Kind(kind)) => Some(Problem::NoKind(*kind)),
+        Some(Choice::All) | None => None,
+    }
 }
 
 /// Whether each choice means a row, and no two rows that are meant have one type and id.
-fn can_copy(host: &Host<'_>, chosen: &[Choice], rows: &[Row<'_>]) -> Result<(), Problem> {
-    match unmet(chosen, rows) {
-        Some(Choice::One(what)) => return Err(Problem::Edit(Refusal::Missing(*what))),
-        Some(Choice::Kind(kind)) => return Err(Problem::NoKind(*kind)),
-        _ => {}
-    }
-    match second_of(host.alloc(), chosen, rows)? {
-        Some(_) => Err(Problem::Twice),
-        None => Ok(()),
-    }
-}
-
-/// Writes what differs between two files. The result says whether something does.
-fn compare<'a>(host: &Host<'_>, asked: Comparison<'a>, acts: &mut Acts) -> Result<u8, Failed<'a>>
-    ensures few { IfOk result (λ status. status ≤ NOT_FOUND) }
-    ensures quiet { ReadsBoth asked.entry.a.now asked.entry.b.now acts.old.events acts.new.events }
+pub fn can_copy(alloc: Global, chosen: &[Choice], rows: &[Row<'_>]) -> Result<(), Problem>
+    ensures { CanCopy chosen.now rows.now result }
 {
-    let a = asked.a;
-    let bytes = of_file(a, read(host, a, acts))?;
-    let found = of_file(a, fork_found(host.alloc(), &bytes))?;
-    let table = of_file(a, table_found(host.alloc(), &found, &bytes))?;
-    of_file(asked.b, compare_with(host, asked, &table, acts))
-}
-
-/// Writes what differs between the first file's table and the second file. The result says whether something does.
-fn compare_with(
-    host: &Host<'_>,
-    asked: Comparison<'_>,
-    old: &Table<'_>,
-    acts: &mut Acts,
-) -> Result<u8, Problem>
-    ensures few { IfOk result (λ status. status ≤ NOT_FOUND) }
-    ensures quiet { ReadsOnly asked.entry.b.now acts.old.events acts.new.events }
-{
-    let bytes = read(host, asked.b, acts)?;
-    let found = fork_found(host.alloc(), &bytes)?;
-    let new = table_found(host.alloc(), &found, &bytes)?;
-    write_differences(host, asked, old, &new, acts)
-}
-
-/// Writes what differs between two tables. The result says whether something does.
-fn write_differences(
-    host: &Host<'_>,
-    asked: Comparison<'_>,
-    old: &Table<'_>,
-    new: &Table<'_>,
-    acts: &mut Acts,
-) -> Result<u8, Problem>
-    ensures same { IfOk result (λ status. old.now ≡ new.now → status ≡ DONE) }
-    ensures differs { IfOk result (λ status. old.now ≢ new.now → status ≡ NOT_FOUND) }
-    ensures few { IfOk result (λ status. status ≤ NOT_FOUND) }
-    ensures quiet { ReadsNothing acts.old.events acts.new.events }
-{
-    let differences = fork_change::compare(host.alloc(), old, new)?;
-    let text = difference_text(host.alloc(), asked, &differences)?;
-    write_text(host, &text, acts)?;
-    Ok(if differences.is_empty() {
-        DONE
-    } else {
-        NOT_FOUND
-    })
-}
-
-/// What differs between two files, in the form that is asked for.
-fn difference_text(
-    alloc: Global,
-    asked: Comparison<'_>,
-    differences: &Differences<'_, '_>,
-) -> Result<String, HostFull> {
-    match asked.form {
-        Form::Text => text_of(alloc, differences),
-        Form::Json => Ok(difference_line(alloc, asked.a, asked.b, differences)?),
+    if let Some(problem) = unmet_why(chosen, rows) {
+        return Err(problem);
     }
+    match second_of(alloc, chosen, rows) {
+        Ok(Some(_)) => Err(Problem::Twice),
+        Ok(None) => Ok(()),
+        Err(_) => Err(Problem::HostFull),
+    }
+}
+
+/// Writes a file in another container.
+fn convert_file(host: &Host<'_>, asked: &Conversion<'_>, acts: &mut Acts) -> Result<u8, Problem>
+    ensures done { IfOk result (λ status. status ≡ DONE) }
+    ensures dry { asked.now.target.is_dry ≡ true → WritesNothing acts.old.events acts.new.events }
+    ensures saved { IsForNew asked.now → IfOk result (λ _. EndsSaved acts.new.events) }
+    ensures seen { IsForNew asked.now → ShowsSaved acts.old.events acts.new.events }
+{
+    let bytes = read::<Unknown>(host, asked.target.file, acts)?;
+    convert(host, asked, &bytes, acts)
 }
 
 /// Writes a fork of the files in a folder, alone or in a file like another one; or puts its resources into a file.
@@ -269,7 +249,7 @@ fn pack<'a>(host: &Host<'_>, asked: Packing<'a>, acts: &mut Acts) -> Result<u8, 
     let Some(name) = asked.like else {
         return pack_folder(host, asked, None, acts);
     };
-    let bytes = of_file(name, read(host, name, acts))?;
+    let bytes = of_file(name, read::<Unknown>(host, name, acts))?;
     let like = Like {
         name,
         bytes: &bytes,
@@ -288,8 +268,43 @@ pub fn file_at_fault<'a>(like: Option<&'a str>, source: &'a str, problem: &Probl
     }
 }
 
+/// Changes the resources of a file, unless it is in a disk image.
+fn change(
+    host: &Host<'_>,
+    target: &Target<'_>,
+    from: &[Row<'_>],
+    edit: Edit<'_>,
+    acts: &mut Acts,
+) -> Result<u8, Problem>
+    ensures does { ChangesOutside target.now from.now edit.entry result acts.old.events acts.new.events }
+    ensures done { IfOk result (λ status. status ≡ DONE) }
+    ensures dry { target.now.is_dry ≡ true → WritesNothing acts.old.events acts.new.events }
+    ensures saved { IsForFile target.now → IfOk result (λ _. EndsSaved acts.new.events) }
+    ensures seen { IsForFile target.now → ShowsSaved acts.old.events acts.new.events }
+{
+    check_outside::<Unknown>(host, target.file, acts)?;
+    change_file(host, target, from, edit, acts)
+}
+
 /// Changes a file, or makes it where it isn't there and may be made.
 fn put_into(
+    host: &Host<'_>,
+    target: &Target<'_>,
+    creates: bool,
+    edit: Edit<'_>,
+    acts: &mut Acts,
+) -> Result<u8, Problem>
+    ensures done { IfOk result (λ status. status ≡ DONE) }
+    ensures dry { target.now.is_dry ≡ true → WritesNothing acts.old.events acts.new.events }
+    ensures saved { IsForFile target.now → IfOk result (λ _. EndsSaved acts.new.events) }
+    ensures seen { IsForFile target.now → ShowsSaved acts.old.events acts.new.events }
+{
+    check_outside::<Unknown>(host, target.file, acts)?;
+    put_outside(host, target, creates, edit, acts)
+}
+
+/// The same of a file that is in no disk image. It isn't asked where the standard input leads to.
+fn put_outside(
     host: &Host<'_>,
     target: &Target<'_>,
     creates: bool,
@@ -307,6 +322,6 @@ fn put_into(
     match look_at(host, target.file, acts) {
         Ok(None) if creates => create_file(host, target, &[], edit, acts),
         Ok(None) => Err(Problem::NoFile),
-        _ => change_file(host, target, &[], edit, acts),
+        Ok(Some(_)) | Err(_) => change_file(host, target, &[], edit, acts),
     }
 }

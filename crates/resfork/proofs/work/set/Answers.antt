@@ -1,8 +1,8 @@
 use Rattle.fork_saves.specs.Saving.{EndsSaved}
-use Rattle.resfork.proofs.Ended.{ends_as, changed_saved, filed}
+use Rattle.resfork.proofs.Ended.{filed}
 use Rattle.resfork.proofs.work.set.Goals as goal
 
 pub returns-clause-saved : goal.returns-clause-saved
-returns-clause-saved c = λ for. let new = c.change_file.new.acts.events in
-    filed (EndsSaved new) c.change_file.result c.of_file.result c.of_file.ensures.value
-    (changed_saved c.change_file.result new (c.change_file.ensures.saved for) (λ old ends. ends_as old ends.0 new ends.2))
+returns-clause-saved c = λ for. let new = c.change.new.acts.events in
+    filed (EndsSaved new) c.change.result c.of_file.result c.of_file.ensures.value
+    (c.change.ensures.saved for)

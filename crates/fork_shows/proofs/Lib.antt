@@ -1,0 +1,4 @@
+mod Files
+pub mod Quiet
+mod Statuses
+mod Written

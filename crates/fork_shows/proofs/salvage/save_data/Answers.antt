@@ -1,0 +1,4 @@
+use Rattle.fork_shows.proofs.salvage.save_data.Goals as goal
+
+pub returns-in_ok-save_to-in-Ok : goal.returns-in_ok-save_to-in-Ok
+returns-in_ok-save_to-in-Ok c = (_, c.in_ok-save_to-in-Ok.ensures.saves)

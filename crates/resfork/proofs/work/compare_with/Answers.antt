@@ -1,4 +1,0 @@
-use Rattle.resfork.proofs.work.compare_with.Goals as goal
-
-pub returns-clause-quiet : goal.returns-clause-quiet
-returns-clause-quiet c = λ paths may before. c.write_differences.ensures.quiet paths (c.in_ok-bytes.ensures.quiet paths may before)
