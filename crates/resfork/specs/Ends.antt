@@ -15,7 +15,7 @@ use Rattle.fork_change.specs.declared.refusal.Refusal.TheVariants as refusal
 use Rattle.fork_edit.specs.declared.edit.Edit.{Edit}
 use Rattle.fork_edit.specs.declared.edit.Edit.TheVariants as edits
 use Rattle.fork_words.specs.declared.work.Target.{Target}
-use Rattle.file_acts.specs.Acts.{Finds, Log, Reads, ReadsOther, Then, WritesNothing}
+use Rattle.file_acts.specs.Acts.{Finds, Log, ReadsOther, Then}
 use Rattle.file_acts.specs.declared.acts.Act.TheVariants as act
 use Rattle.file_acts.specs.declared.message.Problem.{Problem}
 use Rattle.file_acts.specs.declared.message.Problem.TheVariants as problem
@@ -27,13 +27,8 @@ use Rattle.fork_edit.specs.Replaced.{IsLost}
 use Rattle.fork_edit.specs.declared.replaced.Lost.TheVariants as losses
 use Rattle.fork_rez.specs.Said.{table_of}
 use Rattle.fork_rez.specs.declared.fault.RezFault.TheVariants as rez
-use Rattle.fork_words.specs.declared.work.Packing.{Packing}
-use Rattle.fork_words.specs.declared.work.Place.{Place}
-use Rattle.fork_words.specs.declared.work.Place.TheVariants as places
-use Rattle.fork_words.specs.declared.work.Rezzing.{Rezzing}
 use Rattle.host_paths.specs.Asked.{is_regular}
 use Rattle.mac_files.specs.Kinds.{is_alone, kind_of}
-use Rattle.resfork.specs.declared.rez.Like.{Like}
 use Rattle.fork_shows.specs.declared.failed.Failed.{Failed}
 
 -- the end, without the name of the file that is in the way
@@ -127,37 +122,3 @@ WritesNew target is_forced table file = Then {T = ⊤} (ChecksFree (is_forced ||
 
 unfoldable pub WritesTable : Target → Bool → List ℕ → Table → Result ℕ Problem → Log → Log → Type 0
 WritesTable target is_forced like table = Then (Finds (IsFileLike like table)) (λ file. WritesNew target is_forced table file.items)
-
--- what is reported where rows are put, of which some are there already
-abbrev pub with_advice : Result ℕ Problem → Result ℕ Problem
-with_advice (Err (problem.Edit refusal.Taken)) = Err problem.IsThere
-with_advice other = other
-
--- all rows were put into a file, of which there are some
-unfoldable pub PutsRows : Target → Collision → List Row → Result ℕ Problem → Log → Log → Type 0
-PutsRows target how [] result old new = Finds (λ end. end ≡ Err problem.Nothing) result old new
-PutsRows target how (row ∷ rows) result old new = ((end : Result ℕ Problem) × CopiesRows target (choices.All ∷ []) how (row ∷ rows) end old new × (result ≡ with_advice end))
-    ⊎ ((result ≡ Err problem.HostFull) × (new ≡ old))
-
--- the bytes of a file that another one is to be like; none where it is to be like none
-abbrev pub like_bytes : Option Like → List ℕ
-like_bytes (Some like) = like.bytes.now
-like_bytes None = []
-
--- the resources of a table go to their place, in a file like another one
-unfoldable pub Delivers : Place → List ℕ → Table → Result ℕ Problem → Log → Log → Type 0
-Delivers (places.New target is_forced) like table = WritesTable target is_forced like table
-Delivers (places.Into target how) like table = PutsRows target how table.rows
-
-unfoldable pub RezzesText : Place → List ℕ → Result ℕ Problem → Log → Log → Type 0
-RezzesText place text = Then (Finds (IsRezzed text)) (Delivers place [])
-
-abbrev pub Rezzes : Rezzing → Result ℕ Problem → Log → Log → Type 0
-Rezzes asked = Then (Reads asked.text.now) (λ text. RezzesText asked.place text.items)
-
--- files of a folder were read, of which a table was made; nothing was written
-abbrev pub ReadsFolder : List ℕ → Result Table Problem → Log → Log → Type 0
-ReadsFolder folder result = WritesNothing
-
-unfoldable pub PacksLike : Packing → List ℕ → Result ℕ Problem → Log → Log → Type 0
-PacksLike asked like = Then (ReadsFolder asked.folder.now) (Delivers asked.place like)
