@@ -87,11 +87,7 @@ fn found_line(alloc: Global, sought: &Sought, row: &Row<'_>) -> Result<String, A
 
 /// A line of a list for each of these resources that is sought, in their order (see `fork_list::listing`). `AllocError`
 /// comes where the host has no memory.
-pub fn found_lines(
-    alloc: Global,
-    sought: &Sought,
-    rows: &[Row<'_>],
-) -> Result<String, AllocError>
+pub fn found_lines(alloc: Global, sought: &Sought, rows: &[Row<'_>]) -> Result<String, AllocError>
     ensures { IfOk result (λ text. string_bytes text ≡ found_lines sought.now rows.now) }
 {
     let mut text = String::new(alloc);

@@ -82,7 +82,14 @@ fn print_found(
     ensures quiet { ReadsNothing acts.old.events acts.new.events }
 {
     let lines = found_lines(host.alloc(), sought, rows)?;
-    write_lines(host, Titles::BeforeLines, true, file, lines.as_bytes(), acts)?;
+    write_lines(
+        host,
+        Titles::BeforeLines,
+        true,
+        file,
+        lines.as_bytes(),
+        acts,
+    )?;
     Ok(!lines.as_str().is_empty())
 }
 
@@ -202,13 +209,7 @@ fn is_folder(host: &Host<'_>, path: &str, acts: &mut Acts) -> bool
 }
 
 /// Searches what is named: a file, or all files below a folder.
-fn find_in(
-    host: &Host<'_>,
-    sought: &Sought,
-    file: &str,
-    search: Search,
-    acts: &mut Acts,
-) -> Search
+fn find_in(host: &Host<'_>, sought: &Sought, file: &str, search: Search, acts: &mut Acts) -> Search
     ensures quiet { WritesNothing acts.old.events acts.new.events }
 {
     if is_folder(host, file, acts) {

@@ -285,7 +285,10 @@ pub(crate) fn word_or<'a>(matches: &ArgMatches<'a>, name: &str, other: &'a str) 
 }
 
 /// The files that a command names.
-pub(crate) fn files_named<'a>(alloc: Global, matches: &ArgMatches<'a>) -> Result<Vec<&'a str>, AllocError>
+pub(crate) fn files_named<'a>(
+    alloc: Global,
+    matches: &ArgMatches<'a>,
+) -> Result<Vec<&'a str>, AllocError>
     ensures { IfOk result (λ files. texts_of files.items ≡ words_of (found_of matches.now) (codes "file")) }
 {
     Vec::from_slice(alloc, matches.get_strs("file").unwrap_or(&[]))

@@ -33,8 +33,7 @@ fn rows_put<'a>(
     asked: PuttingTexts<'a>,
     lines: &[u8],
     bytes: &[u8],
-) -> Result<Vec<Resource<Text>>, Failed<'a>>
-{
+) -> Result<Vec<Resource<Text>>, Failed<'a>> {
     let file = asked.target.file;
     let found = of_file(file, fork_found(alloc, bytes))?;
     let table = of_file(file, table_found(alloc, &found, bytes))?;
@@ -44,8 +43,11 @@ fn rows_put<'a>(
 }
 
 /// The rows of these that change where these lines take the place of their texts.
-fn put_lines(alloc: Global, rows: &[Row<'_>], lines: &[u8]) -> Result<Vec<Resource<Text>>, Problem>
-{
+fn put_lines(
+    alloc: Global,
+    rows: &[Row<'_>],
+    lines: &[u8],
+) -> Result<Vec<Resource<Text>>, Problem> {
     let types = text_types(alloc)?;
     let Ok(lines) = str::from_utf8(lines) else {
         return Err(Problem::NoText(String::from_str(alloc, "it")?));

@@ -13,9 +13,9 @@ loop-file-preserved c = let h = c.loop-file.invariant in record {
   few = search rules;
   quiet = λ paths may before. c.add_file-added.ensures.quiet paths (may c.loop-file.file-index _ c.loop-file-test.true) (h.quiet paths may before);
   all = λ done.
-    let none : Bor (List ℕ) = record { ref_ptr = (0, 0); now = [] } in
-    let both = neither c.loop-file.status c.finish.result (sym c.higher-status.ensures ∙ done) in
-    let name = (get_or c.args.files.now c.loop-file.file-index none).now in
-    next_more c.args.files.now c.loop-file.file-index none c.args.page.now.items c.loop-file.page.items c.add_file-added.new.page.items c.loop-file-test.true (h.all both.0)
+      let none : Bor (List ℕ) = record { ref_ptr = (0, 0); now = [] } in
+      let both = neither c.loop-file.status c.finish.result (sym c.higher-status.ensures ∙ done) in
+      let name = (get_or c.args.files.now c.loop-file.file-index none).now in
+      next_more c.args.files.now c.loop-file.file-index none c.args.page.now.items c.loop-file.page.items c.add_file-added.new.page.items c.loop-file-test.true (h.all both.0)
       (is_done (AddsNamed name c.loop-file.page.items c.add_file-added.new.page.items) c.add_file-added.result (sym c.finish.ensures.status ∙ both.1) c.add_file-added.ensures.added);
 }
