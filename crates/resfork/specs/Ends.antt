@@ -30,6 +30,7 @@ use Rattle.fork_rez.specs.declared.fault.RezFault.TheVariants as rez
 use Rattle.host_paths.specs.Asked.{is_regular}
 use Rattle.mac_files.specs.Kinds.{is_alone, kind_of}
 use Rattle.fork_shows.specs.declared.failed.Failed.{Failed}
+use Rattle.resfork.specs.declared.rez.Like.{Like}
 
 -- the end, without the name of the file that is in the way
 abbrev pub ended : {T : Type 0} → Result T Failed → Result T Problem
@@ -122,3 +123,13 @@ WritesNew target is_forced table file = Then {T = ⊤} (ChecksFree (is_forced ||
 
 unfoldable pub WritesTable : Target → Bool → List ℕ → Table → Result ℕ Problem → Log → Log → Type 0
 WritesTable target is_forced like table = Then (Finds (IsFileLike like table)) (λ file. WritesNew target is_forced table file.items)
+
+-- what is reported where rows are put, of which some are there already
+abbrev pub with_advice : Result ℕ Problem → Result ℕ Problem
+with_advice (Err (problem.Edit refusal.Taken)) = Err problem.IsThere
+with_advice other = other
+
+-- the bytes of a file that another one is to be like; none where it is to be like none
+abbrev pub like_bytes : Option Like → List ℕ
+like_bytes (Some like) = like.bytes.now
+like_bytes None = []

@@ -6,7 +6,7 @@ ghost use Rattle.fork_rez.specs.Said.{made_table};
 ghost use Rattle.host_paths.specs.declared.host.Answer.{Answer};
 ghost use Rattle.mac_files.specs.Kinds.{is_alone, kind_of};
 ghost use Rattle.file_acts.specs.declared.acts.Act.TheVariants as act;
-ghost use Rattle.resfork.specs.Ends.{ChecksAt, ChecksFree, Delivers, IsFileLike, IsFree, IsRezzed, PacksLike, PutsRows, Rezzes, RezzesText, WritesAndSays, WritesNew, WritesTable, ended, leads_to_file, like_bytes, with_advice};
+ghost use Rattle.resfork.specs.Ends.{ChecksAt, ChecksFree, IsFileLike, IsFree, IsRezzed, WritesAndSays, WritesNew, WritesTable, leads_to_file, like_bytes, with_advice};
 ghost use Rattle.file_acts.specs.Acts.{WritesNothing};
 ghost use Rattle.image_acts.specs.Words.{ReadsWord};
 ghost use Rattle.file_acts.specs.Saved.{SavedAndSaid, ShowsSaved};
