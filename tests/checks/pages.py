@@ -21,7 +21,7 @@ BLOCK = re.compile(r"^```.*?^```$", re.M | re.S)
 CODE = re.compile(r"`[^`\n]*`|^    .*$", re.M)
 # the most lines that each page may have; there are no others
 LINES = {
-    "README.md": 108,
+    "README.md": 110,
     "docs/CONTRIBUTING.md": 66,
     "docs/DECISIONS.md": 60,
     "docs/DESIGN.md": 205,
@@ -30,7 +30,7 @@ LINES = {
     "docs/FILES.md": 184,
     "docs/FORMAT.md": 78,
     "docs/SCRIPT.md": 276,
-    "docs/THEOREM.md": 218,
+    "docs/THEOREM.md": 220,
 }
 WIDTH = 100
 # the most words of all pages, code blocks aside
