@@ -30,7 +30,7 @@ LINES = {
     "docs/FILES.md": 184,
     "docs/FORMAT.md": 78,
     "docs/SCRIPT.md": 276,
-    "docs/THEOREM.md": 220,
+    "docs/THEOREM.md": 228,
 }
 WIDTH = 100
 # the most words of all pages, code blocks aside
