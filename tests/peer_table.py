@@ -18,7 +18,6 @@ import glob
 import json
 import os
 import random
-import re
 import shutil
 import struct
 import subprocess
@@ -71,6 +70,14 @@ class Tried:
         self.said = done.stdout
         return done.returncode == 0
 
+    def first(self, *ways):
+        """Whether one of these runs ends well; after it there are no more."""
+        return any(self.run(*words) for words in ways)
+
+    def each(self, *steps):
+        """Whether each of these runs ends well, in turn."""
+        return all(self.run(*words) for words in steps)
+
     def put(self, name, data):
         with open(os.path.join(self.folder, name), "wb") as file:
             file.write(data)
@@ -109,21 +116,21 @@ def takes(tried, peer, path, image):
     if peer == "exiftool":
         return sorted(lists_by_exif_tool(tried, path)) == sorted((it.kind, it.ident, len(it.data)) for it in read_fork(FORK, FORMAT))
     if peer == "resfork":
-        tried.run(tried.resfork, "convert", "--lossy", "--data", "out.data", "--to", "raw", f"{path}:Note" if image else path, "out.rsrc") or tried.run(
-            tried.resfork, "convert", "--lossy", "--to", "raw", path, "out.rsrc")
+        convert, given = [tried.resfork, "convert", "--lossy", "--to", "raw"], f"{path}:Note" if image else path
+        tried.first([*convert, "--data", "out.data", given, "out.rsrc"], [*convert, given, "out.rsrc"])
     elif peer == "unar":
         tried.run("unar", "-q", "-f", "-k", "hidden", path)
     elif peer == "macutils":
-        tried.run("macunpack", "-r", path) or tried.run("hexbin", "-r", path)
+        tried.first(["macunpack", "-r", path], ["hexbin", "-r", path])
     elif image:
         for part in ([], ["0"], ["1"]):
-            if tried.run("hmount", path, *part) and tried.run("hcopy", "-m", ":Note", "out.bin"):
+            if tried.each(["hmount", path, *part], ["hcopy", "-m", ":Note", "out.bin"]):
                 break
     else:
         # into a volume, and out of it again
         tried.put("given.disk", bytes(819200))
         mode = "-b" if path.endswith("hqx") else "-m"
-        tried.run("hformat", "given.disk") and tried.run("hcopy", mode, path, ":Note") and tried.run("hcopy", "-m", ":Note", "out.bin")
+        tried.each(["hformat", "given.disk"], ["hcopy", mode, path, ":Note"], ["hcopy", "-m", ":Note", "out.bin"])
     return FORK in tried.forks()
 
 
@@ -133,17 +140,15 @@ def writes(tried, peer, kind):
     tried.put("given.rsrc", FORK)
     tried.put("given.bin", WRITERS["macbinary"](FILE))
     if peer == "resfork":
-        tried.run(tried.resfork, "convert", "--lossy", "--data", "given.data", "--to", kind, "given.bin", path) or tried.run(
-            tried.resfork, "convert", "--lossy", "--to", kind, "given.bin", path)
+        convert = [tried.resfork, "convert", "--lossy", "--to", kind]
+        tried.first([*convert, "--data", "given.data", "given.bin", path], [*convert, "given.bin", path])
     elif peer == "macutils" and kind in ("macbinary", "binhex"):
         tried.run({"macbinary": "macstream", "binhex": "binhex"}[kind], "-r", "given.rsrc", to=path)
-    elif peer in ("macutils", "unar") and kind == "raw":
-        return takes(tried, peer, "given.bin", False) if peer == "macutils" else False
-    elif peer == "unar" and kind == "appledouble":
+    elif (peer, kind) in (("macutils", "raw"), ("unar", "appledouble")):
         return takes(tried, peer, "given.bin", False)
     elif peer == "hfsutils" and kind in ("macbinary", "binhex"):
         tried.put("given.disk", VOLUME)
-        tried.run("hmount", "given.disk") and tried.run("hcopy", "-m" if kind == "macbinary" else "-b", ":Note", path)
+        tried.each(["hmount", "given.disk"], ["hcopy", "-m" if kind == "macbinary" else "-b", ":Note", path])
     return os.path.exists(os.path.join(tried.folder, path)) and FORK in tried.forks()
 
 
@@ -152,10 +157,10 @@ def changes_a_volume(tried, peer):
     tried.put("given.disk", VOLUME)
     tried.put("given.bin", WRITERS["macbinary"](Contents(**{**vars(FILE), "name": b"New"})))
     if peer == "hfsutils":
-        tried.run("hmount", "given.disk") and tried.run("hcopy", "-m", "given.bin", ":New") and tried.run("hcopy", "-m", ":New", "out.bin")
+        tried.each(["hmount", "given.disk"], ["hcopy", "-m", "given.bin", ":New"], ["hcopy", "-m", ":New", "out.bin"])
     if peer == "resfork":
-        tried.run(tried.resfork, "convert", "--to", "macbinary", "given.bin", "given.disk:New") and tried.run(
-            tried.resfork, "convert", "--lossy", "--to", "raw", "given.disk:New", "out.bin")
+        convert = [tried.resfork, "convert", "--lossy", "--to"]
+        tried.each([*convert, "macbinary", "given.bin", "given.disk:New"], [*convert, "raw", "given.disk:New", "out.bin"])
     return FORK in tried.forks()
 
 
@@ -183,7 +188,7 @@ def damaged():
 
 
 def salvages(tried, peer):
-    """How many of 100 resources come out of damaged forks, on average, and out of how many forks some do."""
+    """How many of 100 resources come out of damaged forks, on average."""
     shares = []
     for fork, rows in damaged():
         tried.begin()
@@ -219,10 +224,9 @@ def has_rows(fork):
 def rows_of(tried, archives):
     """The rows of the table: a name, and what is to be found out of each program."""
     for name, kind in CONTAINERS.items():
-        data = WRITERS[kind](FILE)
-        yield f"reads {name}", lambda peer, kind=kind, data=data: given(tried, f"given.{ENDINGS[kind]}", data) and takes(tried, peer, f"given.{ENDINGS[kind]}", False)
+        yield f"reads {name}", lambda peer, kind=kind: reads(tried, peer, f"given.{ENDINGS[kind]}", WRITERS[kind](FILE), False)
     for name, data in IMAGES.items():
-        yield f"reads {name}", lambda peer, data=data: given(tried, "given.img", data) and takes(tried, peer, "given.img", True)
+        yield f"reads {name}", lambda peer, data=data: reads(tried, peer, "given.img", data, True)
     for archive in archives:
         yield f"opens {os.path.basename(archive)}", lambda peer, archive=archive: opens(tried, peer, archive)
     for name, kind in CONTAINERS.items():
@@ -232,9 +236,9 @@ def rows_of(tried, archives):
     yield "reads damaged forks", lambda peer: peer in ("resfork", "fontTools") and salvages(tried, peer)
 
 
-def given(tried, name, data):
+def reads(tried, peer, name, data, image):
     tried.put(name, data)
-    return True
+    return takes(tried, peer, name, image)
 
 
 def main():
