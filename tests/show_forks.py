@@ -3,10 +3,12 @@
 
     tests/show_forks.py FILE..
 
-The list is that of the small model in tests/model/fork.py. In the bytes a `*` stands for lines that are the same as the one before it.
+The list is that of the small model in tests/model/fork.py. Of a file in AppleSingle, AppleDouble, MacBinary or BinHex it shows the fork in it.
+In the bytes a `*` stands for lines that are the same as the one before it.
 """
 import sys
 
+from model.container import NoContents, resource_fork
 from model.fork import NoFork, listing, read_fork
 from model.messages import message
 
@@ -38,7 +40,12 @@ def dump(fork):
 def main(paths):
     for path in paths:
         with open(path, "rb") as file:
-            fork = file.read()
+            whole = file.read()
+        try:
+            fork = resource_fork(whole)
+        except NoContents:
+            print(f"{path}: {len(whole)} bytes, a container out of which no fork can be taken")
+            continue
         print(f"{path}: {len(fork)} bytes\n{resources(fork)}{dump(fork)}", end="")
 
 
