@@ -7,14 +7,14 @@ use Rattle.std.proofs.lemmas.Bool.{and_from}
 use Rattle.std.proofs.lemmas.List.Folds.{list_all-append}
 use Rattle.fork_bytes.specs.Rows.{Row}
 use Rattle.html_text.specs.declared.tag.Tag.{Tag}
-use Rattle.html_text.specs.declared.tag.Tag.TheVariants.{Article, Details, Heading2, Heading3, Image, Paragraph, Preformatted, Section, Summary}
-use Rattle.html_text.specs.declared.tag.AttributeName.TheVariants.{Alternative, Source}
+use Rattle.html_text.specs.declared.tag.Tag.TheVariants.{Article, Audio, Details, Heading2, Heading3, Image, Paragraph, Preformatted, Section, Summary}
+use Rattle.html_text.specs.declared.tag.AttributeName.TheVariants.{Alternative, Controls, Label, Source}
 use Rattle.html_text.specs.Texts.{Pair, end_tag, html_text, start_tag}
 use Rattle.html_text.specs.Reader.{bare_end, bare_start, tags_in, tags_of}
 use Rattle.html_text.proofs.Reading.{no_markup, one_tag}
 use Rattle.fork_page.specs.declared.shown.Shown.{Shown}
 use Rattle.fork_page.specs.declared.shown.Shown.TheVariants as shown
-use Rattle.fork_page.specs.Articles.{article, body, element, hidden, picture, source_text, title_text}
+use Rattle.fork_page.specs.Articles.{article, body, element, hidden, picture, player, player_start, source_text, title_text}
 use Rattle.fork_page.specs.declared.shown.TheConstants.{FRONT}
 use Rattle.fork_page.specs.Laws.{HasNoOtherTags, is_known}
 use Rattle.fork_page.specs.Pages.{AreArticles}
@@ -57,10 +57,16 @@ hides summary text =
     joined _ _ (starts Details [] refl) (joined _ _ (elements Summary summary refl refl) (joined _ _ (elements Preformatted text refl refl) (ends Details refl)))
 
 pictures : (png title : List ℕ) → Adds (picture png title)
-pictures png title = starts Image ((Source, source_text png) ∷ (Alternative, title) ∷ []) refl
+pictures png title = starts Image ((Source, source_text (codes "data:image/png;base64,") png) ∷ (Alternative, title) ∷ []) refl
+
+players : (wav title : List ℕ) → Adds (player wav title)
+unfolding player_start
+players wav title =
+    joined _ _ (starts Audio ((Controls, []) ∷ (Label, title) ∷ (Source, source_text (codes "data:audio/wav;base64,") wav) ∷ []) refl) (ends Audio refl)
 
 bodies : (title : List ℕ) (size : ℕ) (it : Shown) → Adds (body title size it)
 bodies title size (shown.Picture png) = pictures png.items title
+bodies title size (shown.Sound wav) = players wav.items title
 bodies title size (shown.Text text) = elements Preformatted (string_bytes text) refl refl
 bodies title size (shown.Compressed unpacked) = said (codes "compressed, ") (codes " bytes unpacked") unpacked
 bodies title size (shown.Digits digits) = hides (codes "the first " ++ (decimal (min size FRONT) ++ codes " bytes")) (string_bytes digits)

@@ -7,9 +7,9 @@ use Rattle.fork_bytes.specs.Rows.{Row}
 use Rattle.fork_list.specs.declared.letters.Letters.TheVariants.{Roman}
 use Rattle.fork_list.specs.Listing.{name_text}
 use Rattle.fork_list.specs.Quoted.{quoted}
-use Rattle.html_text.specs.declared.tag.AttributeName.TheVariants.{Alternative, Source}
+use Rattle.html_text.specs.declared.tag.AttributeName.TheVariants.{Alternative, Controls, Label, Source}
 use Rattle.html_text.specs.declared.tag.Tag.{Tag}
-use Rattle.html_text.specs.declared.tag.Tag.TheVariants.{Article, Details, Heading3, Image, Paragraph, Preformatted, Summary}
+use Rattle.html_text.specs.declared.tag.Tag.TheVariants.{Article, Audio, Details, Heading3, Image, Paragraph, Preformatted, Summary}
 use Rattle.html_text.specs.Texts.{end_tag, html_text, start_tag}
 use Rattle.fork_page.specs.declared.shown.Shown.{Shown}
 use Rattle.fork_page.specs.declared.shown.Shown.TheVariants as shown
@@ -23,13 +23,21 @@ title_text kind id name = quoted Roman 39 kind ++ (32 ∷ (signed_decimal id ++ 
 unfoldable pub element : Tag → List ℕ → List ℕ
 element tag text = start_tag tag [] ++ (html_text text ++ end_tag tag)
 
--- where a picture within the page is
-abbrev pub source_text : List ℕ → List ℕ
-source_text png = codes "data:image/png;base64," ++ encode_of standard png
+-- where a file within the page is, after what kind of file it is
+abbrev pub source_text : List ℕ → List ℕ → List ℕ
+source_text kind file = kind ++ encode_of standard file
 
 -- a picture, with what is read in its place
 abbrev pub picture : List ℕ → List ℕ → List ℕ
-picture png title = start_tag Image ((Source, source_text png) ∷ (Alternative, title) ∷ [])
+picture png title = start_tag Image ((Source, source_text (codes "data:image/png;base64,") png) ∷ (Alternative, title) ∷ [])
+
+-- the tag at which the player of a sound begins, with what it is called
+unfoldable pub player_start : List ℕ → List ℕ → List ℕ
+player_start wav title = start_tag Audio ((Controls, []) ∷ (Label, title) ∷ (Source, source_text (codes "data:audio/wav;base64,") wav) ∷ [])
+
+-- the player of a sound
+abbrev pub player : List ℕ → List ℕ → List ℕ
+player wav title = player_start wav title ++ end_tag Audio
 
 -- a text that is hidden until it is asked for
 abbrev pub hidden : List ℕ → List ℕ → List ℕ
@@ -42,6 +50,7 @@ compressed unpacked = element Paragraph (codes "compressed, " ++ (decimal unpack
 -- what is shown of one with so many bytes
 abbrev pub body : List ℕ → ℕ → Shown → List ℕ
 body title size (shown.Picture png) = picture png.items title
+body title size (shown.Sound wav) = player wav.items title
 body title size (shown.Text text) = element Preformatted (string_bytes text)
 body title size (shown.Compressed unpacked) = compressed unpacked
 body title size (shown.Digits digits) = hidden (codes "the first " ++ (decimal (min size FRONT) ++ codes " bytes")) (string_bytes digits)

@@ -8,7 +8,7 @@ use Rattle.fork_page.specs.Pages.{AddsFile}
 -- the tags of files on a page, without the values in them
 abbrev pub known_tags : List (List ℕ)
 known_tags = codes "section" ∷ codes "/section" ∷ codes "h2" ∷ codes "/h2" ∷ codes "p" ∷ codes "/p" ∷ codes "article" ∷ codes "/article" ∷ codes "h3" ∷ codes "/h3"
-    ∷ codes "img src=\"\" alt=\"\"" ∷ codes "pre" ∷ codes "/pre" ∷ codes "details" ∷ codes "/details" ∷ codes "summary" ∷ codes "/summary" ∷ []
+    ∷ codes "img src=\"\" alt=\"\"" ∷ codes "audio controls=\"\" aria-label=\"\" src=\"\"" ∷ codes "/audio" ∷ codes "pre" ∷ codes "/pre" ∷ codes "details" ∷ codes "/details" ∷ codes "summary" ∷ codes "/summary" ∷ []
 
 abbrev pub is_known : List ℕ → Bool
 is_known tag = list_any (bytes_eq tag) known_tags

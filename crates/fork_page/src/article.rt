@@ -1,7 +1,7 @@
 //! A resource on a page.
 
 ghost use Rattle.std.specs.Prelude.{◌≡◌, ◌++◌, IfOk, OnOk, Some, option_map, string_bytes};
-ghost use Rattle.fork_page.specs.Articles.{article, body, compressed, element, hidden, picture, source_text, title_text};
+ghost use Rattle.fork_page.specs.Articles.{article, body, compressed, element, hidden, picture, player, player_start, source_text, title_text};
 ghost use Rattle.fork_page.specs.Shown.{IsShown};
 
 use crate::shown::{FRONT, Shown, shown_of};
@@ -44,12 +44,12 @@ pub(crate) fn push_element(page: &mut Vec<u8>, tag: Tag, text: &str) -> Result<(
     push_end(page, tag)
 }
 
-/// Where a picture within the page is.
-fn source_of(alloc: Global, png: &[u8]) -> Result<String, AllocError>
-    ensures { IfOk result (λ source. string_bytes source ≡ source_text png.now) }
+/// Where a file within the page is, after what kind of file it is.
+fn source_of(alloc: Global, kind: &str, file: &[u8]) -> Result<String, AllocError>
+    ensures { IfOk result (λ source. string_bytes source ≡ source_text kind.now file.now) }
 {
-    let mut source = String::from_str(alloc, "data:image/png;base64,")?;
-    STANDARD.encode_string(png, &mut source)?;
+    let mut source = String::from_str(alloc, kind)?;
+    STANDARD.encode_string(file, &mut source)?;
     Ok(source)
 }
 
@@ -62,7 +62,7 @@ fn push_picture(
 ) -> Result<(), AllocError>
     ensures { OnOk result (page.new.items ≡ page.old.items ++ picture png.now title.now) }
 {
-    let source = source_of(alloc, png)?;
+    let source = source_of(alloc, "data:image/png;base64,", png)?;
     let attributes = [
         Attribute {
             name: AttributeName::Source,
@@ -74,6 +74,42 @@ fn push_picture(
         },
     ];
     push_start(page, Tag::Image, &attributes)
+}
+
+/// Adds the tag at which the player of a sound begins, which is called by the title.
+#[tactic(auto, unfolding(crate::specs::Articles::player_start))]
+fn push_player_start(
+    alloc: Global,
+    page: &mut Vec<u8>,
+    wav: &[u8],
+    title: &str,
+) -> Result<(), AllocError>
+    ensures { OnOk result (page.new.items ≡ page.old.items ++ player_start wav.now title.now) }
+{
+    let source = source_of(alloc, "data:audio/wav;base64,", wav)?;
+    let attributes = [
+        Attribute {
+            name: AttributeName::Controls,
+            value: b"",
+        },
+        Attribute {
+            name: AttributeName::Label,
+            value: title.as_bytes(),
+        },
+        Attribute {
+            name: AttributeName::Source,
+            value: source.as_bytes(),
+        },
+    ];
+    push_start(page, Tag::Audio, &attributes)
+}
+
+/// Adds the player of a sound, which is called by the title.
+fn push_player(alloc: Global, page: &mut Vec<u8>, wav: &[u8], title: &str) -> Result<(), AllocError>
+    ensures { OnOk result (page.new.items ≡ page.old.items ++ player wav.now title.now) }
+{
+    push_player_start(alloc, page, wav, title)?;
+    push_end(page, Tag::Audio)
 }
 
 /// Adds that a resource is compressed, and how many bytes it would have.
@@ -106,6 +142,7 @@ fn push_body(
 {
     match shown {
         Shown::Picture(png) => push_picture(alloc, page, png, title),
+        Shown::Sound(wav) => push_player(alloc, page, wav, title),
         Shown::Text(text) => push_element(page, Tag::Preformatted, text),
         Shown::Compressed(unpacked) => push_compressed(alloc, page, *unpacked),
         Shown::Digits(digits) => {

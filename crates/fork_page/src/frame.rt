@@ -1,12 +1,13 @@
 //! What is before and after the files of a page: how it looks, and how resources are chosen.
 
-/// What is before the files. No request goes out: only pictures within the page are shown, and only this style and this script count.
+/// What is before the files. No request goes out: only pictures and sounds within the page are shown, and only this style
+/// and this script count.
 pub(crate) const HEAD: &str = "\
 <!DOCTYPE html>
 <html lang=\"en\">
 <head>
 <meta charset=\"utf-8\">
-<meta http-equiv=\"Content-Security-Policy\" content=\"default-src 'none'; img-src data:; style-src 'sha256-HRNiSJpf0A4ER59a+kEaVGfSNp/m77gPNvGiVt5+NiI='; script-src 'sha256-ERiscKs4canMJMt6U662YXev/OlDKGT+H3sDI91FqHQ='\">
+<meta http-equiv=\"Content-Security-Policy\" content=\"default-src 'none'; img-src data:; media-src data:; style-src 'sha256-D7Hp4HNF7LJbmt/LmOlOqcB/Gp+fLxSKrmyHr/c9WWA='; script-src 'sha256-ERiscKs4canMJMt6U662YXev/OlDKGT+H3sDI91FqHQ='\">
 <meta name=\"viewport\" content=\"width=device-width, initial-scale=1\">
 <title>Resources of old files</title>
 <style>:root { color-scheme: light dark; --ink: #1c1c1e; --paper: #fbfaf7; --card: #fff; --line: #d9d6cf; --quiet: #5d5a54; --light: #fff; --dark: #d0cec8; }
@@ -30,6 +31,9 @@ article > p { margin: .1rem 0 .5rem; color: var(--quiet); font-size: .8rem; }
 img { zoom: 2; max-width: 100%; image-rendering: pixelated; background: repeating-conic-gradient(var(--dark) 0 25%, var(--light) 0 50%) 0 0 / 8px 8px; }
 pre { margin: 0; max-height: 24rem; overflow: auto; font: .8rem/1.4 ui-monospace, monospace; white-space: pre-wrap; overflow-wrap: anywhere; }
 details pre { white-space: pre; }
+article:has(audio) { grid-column: span 2; }
+@media (max-width: 600px) { article:has(audio) { grid-column: 1 / -1; } }
+audio { display: block; width: 100%; height: 2.5rem; }
 summary { cursor: pointer; color: var(--quiet); font-size: .8rem; }
 [hidden] { display: none; }
 :focus-visible { outline: 2px solid #2f6fdb; outline-offset: 2px; }

@@ -7,5 +7,6 @@ mod sound;
 pub mod unpack;
 mod view;
 
+pub use sound::wav_of;
 pub use unpack::{NotUnpacked, Unpacking};
 pub use view::{Chosen, NotShown, ShowAs, Sight, Untold, View, sight_of};

@@ -18,8 +18,9 @@ pub(crate) fn is_sound(row: &Row) -> bool
     matches!(&row.kind.bytes(), b"snd ")
 }
 
-/// The WAV file of a resource, or why it is no sound.
-pub(crate) fn wav_of(alloc: Global, row: &Row) -> Result<Vec<u8>, NotShown>
+/// The WAV file of a resource, or why there is none: its type isn't `'snd '`, its samples can't be had, or the host has no
+/// memory.
+pub fn wav_of(alloc: Global, row: &Row) -> Result<Vec<u8>, NotShown>
     ensures file { IfOk result (λ bytes. wav_file_of row.now ≡ Ok bytes.items) }
     ensures none { IfErr result (λ why. (why ≡ NotShown.HostFull) ⊎ (wav_file_of row.now ≡ Err why)) }
 {

@@ -24,6 +24,7 @@ html_text text = flat_map escaped text
 -- the names of elements
 abbrev pub tag_name : Tag → List ℕ
 tag_name tag.Article = codes "article"
+tag_name tag.Audio = codes "audio"
 tag_name tag.Code = codes "code"
 tag_name tag.Details = codes "details"
 tag_name tag.Division = codes "div"
@@ -42,7 +43,9 @@ tag_name tag.Summary = codes "summary"
 abbrev pub name_of : AttributeName → List ℕ
 name_of attribute_name.Alternative = codes "alt"
 name_of attribute_name.Class = codes "class"
+name_of attribute_name.Controls = codes "controls"
 name_of attribute_name.Id = codes "id"
+name_of attribute_name.Label = codes "aria-label"
 name_of attribute_name.Source = codes "src"
 name_of attribute_name.Width = codes "width"
 

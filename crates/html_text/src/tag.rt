@@ -10,6 +10,7 @@ use std::alloc::AllocError;
 #[derive(Clone, Copy, Debug, PartialEq, Eq)]
 pub enum Tag {
     Article,
+    Audio,
     Code,
     Details,
     Division,
@@ -32,6 +33,7 @@ impl Tag {
     {
         match self {
             Tag::Article => "article",
+            Tag::Audio => "audio",
             Tag::Code => "code",
             Tag::Details => "details",
             Tag::Division => "div",
@@ -55,8 +57,12 @@ pub enum AttributeName {
     /// What is read in place of a picture.
     Alternative,
     Class,
+    /// That a sound has a player, whatever the value is.
+    Controls,
     Id,
-    /// Where a picture is.
+    /// What an element is called where it can't be seen.
+    Label,
+    /// Where a picture or a sound is.
     Source,
     Width,
 }
@@ -69,7 +75,9 @@ impl AttributeName {
         match self {
             AttributeName::Alternative => "alt",
             AttributeName::Class => "class",
+            AttributeName::Controls => "controls",
             AttributeName::Id => "id",
+            AttributeName::Label => "aria-label",
             AttributeName::Source => "src",
             AttributeName::Width => "width",
         }
