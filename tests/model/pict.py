@@ -407,7 +407,8 @@ def region(box, *lines):
 
 def pixel_map(row, bounds, depth, packing=0, parts=1):
     """A pixel map, without the address before it."""
-    return struct.pack(">H", row | 0x8000) + rect(*bounds) + struct.pack(">2H3I4H3I", 0, packing, 0, 72 << 16, 72 << 16, 16 if depth > 8 else 0, depth, parts, 0, 0, 0, 0)
+    each = min(depth, 8) if depth != 16 else 5
+    return struct.pack(">H", row | 0x8000) + rect(*bounds) + struct.pack(">2H3I4H3I", 0, packing, 0, 72 << 16, 72 << 16, 16 if depth > 8 else 0, depth, parts, each, 0, 0, 0)
 
 
 def table(colours, in_order, rng):
