@@ -25,6 +25,8 @@ RANDOM = random.Random(7)
 ICON = bytes(RANDOM.randrange(256) for _ in range(128))
 MASK = bytes(RANDOM.randrange(256) for _ in range(128))
 SMALL = bytes(RANDOM.randrange(256) for _ in range(96))
+BOX = (0, 0, 8, 24)
+PICT = picture(BOX, [Drawn(RANDOM, 0x98, 4, BOX).opcode])
 
 # resources with the rows of their pictures
 PICTURES = [
@@ -38,6 +40,7 @@ PICTURES = [
     (b"icl8", bytes(range(256)) * 4, pixels(bytes(range(256)) * 4, 32, bits=8)),
     (b"ics4", SMALL[:32] * 4, pixels(SMALL[:32] * 4, 16, bits=4)),
     (b"PAT ", SMALL[:8], pixels(SMALL[:8], 8)),
+    (b"PICT", PICT, [[(*dot, 255) for dot in line] for line in dots(PICT)]),
 ]
 
 # resources with what is shown of them
@@ -122,7 +125,6 @@ SILENT = [
 
 # lines, texts and other things that a picture has, and that aren't drawn
 LINE, TEXT, OVALS = (0x20, bytes(8)), (0x28, bytes(4) + b"\2ab"), [(0x50, bytes(8)), (0x5C, b"")]
-BOX = (0, 0, 8, 24)
 
 
 def drawings():
