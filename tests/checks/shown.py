@@ -17,6 +17,7 @@ from checks.forks import Choices, compare, run
 from checks.parts import whole
 from model.fork import NoFork, Row, listing, read_fork
 from model.messages import MISSING, message, refusal
+from model.pict import Drawn, dots, left, picture, pixel_map, rect, region
 from model.sound import BUFFER, SOUND, as_bytes, commands, compressed, extended, ima4, read_wav, standard, words
 from model.shown import file_name, folder_name, pixels, read_png
 
@@ -24,6 +25,8 @@ RANDOM = random.Random(7)
 ICON = bytes(RANDOM.randrange(256) for _ in range(128))
 MASK = bytes(RANDOM.randrange(256) for _ in range(128))
 SMALL = bytes(RANDOM.randrange(256) for _ in range(96))
+BOX = (0, 0, 8, 24)
+PICT = picture(BOX, [Drawn(RANDOM, 0x98, 4, BOX).opcode])
 
 # resources with the rows of their pictures
 PICTURES = [
@@ -37,6 +40,7 @@ PICTURES = [
     (b"icl8", bytes(range(256)) * 4, pixels(bytes(range(256)) * 4, 32, bits=8)),
     (b"ics4", SMALL[:32] * 4, pixels(SMALL[:32] * 4, 16, bits=4)),
     (b"PAT ", SMALL[:8], pixels(SMALL[:8], 8)),
+    (b"PICT", PICT, [[(*dot, 255) for dot in line] for line in dots(PICT)]),
 ]
 
 # resources with what is shown of them
@@ -118,6 +122,60 @@ SILENT = [
     (PLAYED + compressed(DISC, 1, b"ima4", 16, 13, PACKETS), message("few bytes", 84 + 13 * 34)),
     (PLAYED + compressed(DISC, 1, b"ima4", 16, 12, PACKETS[:34] + b"\0\x59" + PACKETS[36:]), message("wrong packet", 118)),
 ]
+
+# lines, texts and other things that a picture has, and that aren't drawn
+LINE, TEXT, OVALS = (0x20, bytes(8)), (0x28, bytes(4) + b"\2ab"), [(0x50, bytes(8)), (0x5C, b"")]
+
+
+def drawings():
+    """Pictures in QuickDraw's language, with the map that is all of them, if one is: of all packings, in both versions, clipped, stretched, one over the
+    other, and with things that aren't drawn."""
+    rng = random.Random(11)
+    for number, depth in enumerate((1, 2, 4, 8)):
+        for code, width in ((0x90, 33), (0x98, 40), (0x98, 5), (0x98, 2040 // depth)):
+            drawn = Drawn(rng, code, depth, (-3, 7, 6, 7 + width), in_order=number % 2 == 0, mode=64 * (number % 2))
+            yield picture((-3, 7, 6, 7 + width), [drawn.opcode], 1 + number % 2), drawn
+    for code, packing, depth, parts in ((0x9A, 0, 16, 3), (0x9A, 3, 16, 3), (0x9A, 1, 16, 3), (0x9A, 0, 32, 3), (0x9A, 4, 32, 4), (0x9A, 1, 32, 3), (0x9A, 2, 32, 3)):
+        for width in (1, 24, 130):
+            drawn = Drawn(rng, code, depth, (0, 0, 5, width), packing=packing, parts=parts)
+            yield picture((0, 0, 5, width), [drawn.opcode]), drawn
+    flat = Drawn(rng, 0x98, 1, BOX, row=12, flat=True)
+    yield picture(BOX, [flat.opcode], 1), flat
+    yield picture(BOX, []), None
+    clip = (1, region((1, 2, 7, 20), (1, 2, 20), (3, 5, 9), (5, 5, 9, 12, 15), (7, 2, 12, 15, 20)))
+    mask = region((0, 0, 6, 24))
+    over = [Drawn(rng, code, depth, (2, 2, 9, 15), mask=mask, target=(1, 3, 8, 23), source=(3, 1, 9, 12)).opcode for code, depth in ((0x91, 1), (0x99, 4), (0x9B, 16))]
+    for some in (over[:1], over, [clip, *over[1:]], [over[1], clip, over[2], (1, region(BOX)), over[0]]):
+        yield picture(BOX, some), None
+    other = Drawn(rng, 0x98, 8, BOX, mode=1).opcode
+    for version, some in ((1, [LINE, flat.opcode]), (2, [flat.opcode, LINE, TEXT, *OVALS, other, LINE]), (2, [(0x0C, bytes(4)), flat.opcode, (0x0C, b"\0\1\0\0")])):
+        yield picture(BOX, some, version), flat if other not in some else None
+    shapes = [(code, b"\0\x0a" + bytes(8) if code in (0x72, 0x84) else bytes(12 if code == 0x61 else 8)) for code in (0x30, 0x31, 0x44, 0x61, 0x72, 0x84)]
+    yield picture(BOX, [flat.opcode, *shapes, (0x35, bytes(8)), (0x3D, b""), (0x8200, bytes(4)), (0x8201, bytes(3) + b"\1x"), (0xA0, bytes(2)), (0x7FFF, bytes(254))]), flat
+
+
+def undrawn():
+    """Resources of which no picture is written, with what is said."""
+    rng, flat = random.Random(12), Drawn(random.Random(12), 0x98, 1, BOX, row=12, flat=True)
+    direct = lambda depth, packing, parts: (0x9A, bytes(4) + pixel_map(96, BOX, depth, packing, parts) + rect(*BOX) * 2 + bytes(2))
+    yield b"", message("few bytes", 12)
+    yield bytes(12), message("few bytes", 14)
+    yield bytes(14), message("PICT version", 10)
+    yield picture(BOX, [flat.opcode], 1)[:-1], message("few bytes", 12 + 1 + len(flat.opcode[1]) + 1)
+    yield picture(BOX, [(1, b"\0\x08" + bytes(6))]), message("region size", 16)
+    yield picture(BOX, [(0x12, b"\0\3" + bytes(14))]), message("pattern type", 16)
+    yield picture(BOX, [(0x98, pixel_map(24, BOX, 3) + bytes(90))]), message("dot bits", 44)
+    yield picture(BOX, [direct(8, 0, 3)]), message("dot bits", 48)
+    yield picture(BOX, [(0x98, b"\0\2" + rect(*BOX) + bytes(90))]), message("short rows", 16)
+    yield picture(BOX, [direct(32, 5, 3)]), message("dot packing", 32)
+    yield picture(BOX, [direct(32, 4, 2)]), message("dot parts", 50)
+    yield picture((0, 0, 0, 4), [flat.opcode]), message("no dot")
+    yield picture((0, 0, 4097, 4096), [flat.opcode]), message("many dots")
+    wide = Drawn(rng, 0x98, 1, BOX, target=(0, 0, 4096, 4096)).opcode
+    yield picture((0, 0, 4096, 4096), [(1, region((0, 0, 4096, 4096), (0, *range(0, 40, 2)))), wide]), message("much work")
+    yield picture(BOX, [LINE], 1), message("nothing drawn", "1 line")
+    yield picture(BOX, [TEXT, LINE, *OVALS, LINE, Drawn(rng, 0x98, 8, BOX, mode=36).opcode]), message("nothing drawn", "2 lines, 2 ovals, 1 text and 1 map in another mode")
+
 
 # command lines, with their status and what is said, or words of it
 LINES = [
@@ -201,6 +259,32 @@ def try_shown(program, path):
         compare(f"show {kind} {data}", run(program, ["show", path, kind.decode()]), 0, (title + text).encode(), "")
     write(path, fork_of([Row(b"TEXT", 1, None, 0, b"a\xa9")]))
     compare("show --as hex", run(program, ["show", path, "TEXT", "1", "--as", "hex"]), 0, ("000000  61 A9" + " " * 44 + "a\u00a9\n").encode(), "")
+
+
+def try_drawings(program, path, out):
+    """Compares the PNG files of pictures in QuickDraw's language with their dots, what is said of what isn't drawn, and of those that are none."""
+    tried = 0
+    for data, drawn in drawings():
+        write(path, fork_of([Row(b"PICT", 128, None, 0, data)]))
+        rows, lacking = [[(*dot, 255) for dot in line] for line in dots(data)], left(data)
+        must(drawn is None or drawn.dots == dots(data), f"the model draws another picture of {drawn and drawn.opcode}")
+        told = f"{path}: {message('drawn without', lacking)}\n" if lacking else ""
+        status, png, said = run(program, ["show", path, "PICT", "128"])
+        must((status, said) == (0, told) and read_png(png) == rows, f"picture {tried} isn't shown as it should be: {status} {said}")
+        tried += 1
+    compare("show -o", run(program, ["show", path, "PICT", "128", "-o", out]), 0, b"", told)
+    with open(out, "rb") as file:
+        must(read_png(file.read()) == rows, "-o writes another picture")
+    os.remove(out)
+    for data, why in undrawn():
+        write(path, fork_of([Row(b"PICT", 128, None, 0, data)]))
+        for words in ([], ["--as", "png"], ["-o", out]):
+            compare(f"show {words}", run(program, ["show", path, "PICT", "128", *words]), 2, b"", f"{path}: {message('undrawn', why)}")
+        must(not os.path.exists(out), "a picture that isn't drawn is written")
+        tried += 1
+    status, text, told = run(program, ["show", path, "PICT"])
+    must((status, told) == (0, "") and text.startswith(b"PICT 128\n000000  "), "a picture among others isn't shown in digits")
+    return tried
 
 
 def try_sounds(program, path, out):
@@ -389,6 +473,7 @@ def main(resfork, number=60):
         path = os.path.join(top, "fork")
         try:
             try_shown(resfork, path)
+            drawn = try_drawings(resfork, path, os.path.join(top, "drawing.png"))
             try_sounds(resfork, path, os.path.join(top, "sound.wav"))
             write(path, fork_of([Row(b"STR ", 2, None, 0, b"\x09"), Row(b"snd ", 1, None, 0, b""), Row(b"ICON", 1, None, 0, ICON)]))
             for words, status, told in LINES:
@@ -403,5 +488,5 @@ def main(resfork, number=60):
         except (Difference, AssertionError) as difference:
             print(f"resources that are shown and unpacked: {difference!r}")
             return 1
-    print(f"resources that are shown and unpacked: {len(PICTURES)} pictures, {len(SOUNDS) + len(SILENT)} sounds, {len(TEXTS)} texts, {len(LINES)} command lines and {tried + 3} forks as they should be")
+    print(f"resources that are shown and unpacked: {len(PICTURES) + drawn} pictures, {len(SOUNDS) + len(SILENT)} sounds, {len(TEXTS)} texts, {len(LINES)} command lines and {tried + 3} forks as they should be")
     return 0

@@ -53,14 +53,28 @@ ROWS = {
         "terminal": "the bytes of a resource aren't for a terminal: name a file with -o OUT, or pipe them on",
         "no data file": "--data names a data fork in a file of its own, and there is none here",
         "one file": "the data fork would take the place of the file that is written",
-        "unmade": "no file of this ending is made: show writes texts (--as text), hexadecimal digits (--as hex), as OUT.png 'ICON', 'ICN#', 'ics#', 'CURS' and 'SICN', and as OUT.wav 'snd '; "
+        "unmade": "no file of this ending is made: show writes texts (--as text), hexadecimal digits (--as hex), as OUT.png pictures, and as OUT.wav 'snd '; "
         "get writes the bytes of a resource as they are",
-        "no picture": "this {type} is no picture that is written as a PNG file: such are icons, cursors, patterns and tables of colours whose bytes are right; "
+        "no picture": "this {type} is no picture that is written as a PNG file: such are 'PICT', icons, cursors, patterns and tables of colours whose bytes are right; "
         "--as hex writes hexadecimal digits, and --as text its bytes as text",
         "many pictures": "a PNG file has one picture: name a resource by its type and its id; --as hex writes hexadecimal digits, and --as text texts",
         "no sound": "this {type} is no sound: a 'snd ' is written as a WAV file; --as hex writes hexadecimal digits, and --as text its bytes as text",
         "unheard": "this sound isn't written as a WAV file: {fault}; --as hex shows its bytes",
         "many sounds": "a WAV file has one sound: name a resource by its type and its id; --as hex writes hexadecimal digits, and --as text texts",
+        # pictures in QuickDraw's language
+        "undrawn": "this picture isn't written as a PNG file: {fault}; --as hex shows its bytes",
+        "nothing drawn": "it has {things}, and no bit map or pixel map that is drawn",
+        "PICT version": "the opcode at {at} isn't that of version 1 or 2",
+        "many opcodes": "it has more than 1,048,576 opcodes",
+        "region size": "the word at {at}, the size of a region or a polygon, is less than 10",
+        "pattern type": "the word at {at}, the type of a pattern, is neither 1 nor 2",
+        "dot bits": "the word at {at} is no number of bits that a dot has there",
+        "short rows": "the word at {at} is fewer bytes than a row needs",
+        "dot packing": "the word at {at} is no way to pack dots of so many bits",
+        "dot parts": "the word at {at} isn't 3 or 4 parts of a dot",
+        "no dot": "it has no dot",
+        "many dots": "it has more than 16,777,216 dots",
+        "much work": "what it draws, one over the other, would take too long",
         # sounds
         "large sound": "it has more than 16,777,216 bytes",
         "few bytes": "it has fewer than {count} bytes",
@@ -264,6 +278,16 @@ ROWS = {
         "its second header": "its second header",
         "data fork": "data fork",
         "resource fork": "resource fork",
+        # what of a picture isn't drawn
+        "drawn without": "drawn without {things}: only the bit maps and pixel maps of a picture are drawn",
+        "one rounded": "rounded rectangle",
+        "rounded": "rounded rectangles",
+        "one mode": "map in another mode",
+        "modes": "maps in other modes",
+        "one image": "QuickTime image",
+        "images": "QuickTime images",
+        "one move": "move of the origin",
+        "moves": "moves of the origin",
         # how samples are compressed
         "ace half": "ACE 2:1",
         "ace eight": "ACE 8:3",

@@ -13,6 +13,14 @@ FIRST = [0, "sized", 8, 2, 1, 2, 4, 4, 2, 8, 8, 4, 4, 2, 4, 4, 8, 1, "pattern", 
 FIRST += [8, 4, 6, 2] + [("counted", 0)] * 4 + [("text", 4), ("text", 1), ("text", 1), ("text", 2)] + [("counted", 0)] * 4
 
 
+# the modes of maps that are drawn: srcCopy, and ditherCopy, which is the same in all colours
+COPIES = (0, 64)
+
+# what shapes are called, by the first digits of their opcodes, and what other things are that aren't drawn
+SHAPES = {3: "rectangle", 4: "rounded rectangle", 5: "oval", 6: "arc", 7: "polygon", 8: "region"}
+ORDER = ("line", *SHAPES.values(), "text", "map in another mode", "QuickTime image", "move of the origin")
+
+
 class Wrong(Exception):
     """What isn't so of a picture: a word for it, and a number or a place."""
 
@@ -307,6 +315,45 @@ class Region:
         return within and (self.points is None or sum(row <= y and column <= x for row, column in self.points) % 2 == 1)
 
 
+def is_map(code):
+    """Whether an opcode has a map."""
+    return isinstance(shape(code), tuple) and shape(code)[0] == "bits"
+
+
+def undrawn(data, code, start):
+    """What an opcode would draw that isn't drawn, if anything."""
+    if 0x20 <= code <= 0x23:
+        return "line"
+    if 0x28 <= code <= 0x2B:
+        return "text"
+    if code >> 4 in SHAPES and code & 7 < 5:
+        return SHAPES[code >> 4]
+    if is_map(code) and Bits(data, start, code).mode not in COPIES:
+        return "map in another mode"
+    if code in (0x8200, 0x8201):
+        return "QuickTime image"
+    return "move of the origin" if code == 0x0C and data.number(start, 4) else None
+
+
+def several(name):
+    """What several of a kind are called."""
+    if name == "map in another mode":
+        return "maps in other modes"
+    return "moves of the origin" if name == "move of the origin" else name + "s"
+
+
+def left(resource):
+    """What of a picture isn't drawn, in words; none where all is. It is wrong where none of it is drawn."""
+    data, found = Bytes(resource), opcodes(resource)[1]
+    names = [undrawn(data, code, start) for _, code, start, _ in found]
+    counts = [(names.count(name), name) for name in ORDER if name in names]
+    parts = [f"{count} {name if count == 1 else several(name)}" for count, name in counts]
+    told = " and ".join(it for it in (", ".join(parts[:-1]), *parts[-1:]) if it)
+    if told and not any(is_map(code) and name is None for name, (_, code, _, _) in zip(names, found)):
+        raise Wrong("nothing", told)
+    return told
+
+
 def dots(resource):
     """The picture: each dot is the last opcode's that covers it within the clip, else white."""
     (top, left, bottom, right), found = opcodes(resource)
@@ -314,11 +361,10 @@ def dots(resource):
     rows = [[WHITE] * max(right - left, 0) for _ in range(max(bottom - top, 0))]
     clip = None
     for _, code, start, _ in found:
-        kind = shape(code)
         if code == 1:
             clip = Region(data, start)
-        elif isinstance(kind, tuple) and kind[0] == "bits":
-            copy(data, Bits(data, start, code), clip, rows, top, left)
+        elif is_map(code) and (bits := Bits(data, start, code)).mode in COPIES:
+            copy(data, bits, clip, rows, top, left)
     return rows
 
 
@@ -336,3 +382,92 @@ def copy(data, bits, clip, rows, frame_top, frame_left):
             if 0 <= down < bits.height and 0 <= along < bits.width:
                 if all(region is None or region.has(x, y) for region in (mask, clip)):
                     rows[y - frame_top][x - frame_left] = bits.colour(data, lines[down], along)
+
+
+def rect(top, left, bottom, right):
+    return struct.pack(">4h", top, left, bottom, right)
+
+
+def picture(frame, some, version=2):
+    """A picture of opcodes, each with its operands."""
+    out = bytes(2) + rect(*frame) + (b"\x11\x01" if version == 1 else b"\0\x11\x02\xff")
+    for code, operands in some + [(END, b"")]:
+        if version == 1:
+            out += bytes([code]) + operands
+        else:
+            out += struct.pack(">H", code) + operands + bytes(len(operands) % 2)
+    return out
+
+
+def region(box, *lines):
+    """A region: its rectangle, and lines of a row and columns, if it has some."""
+    words = [it for line in lines for it in (*line, 0x7FFF)] + ([0x7FFF] if lines else [])
+    return struct.pack(">H", 10 + 2 * len(words)) + rect(*box) + struct.pack(f">{len(words)}h", *words)
+
+
+def pixel_map(row, bounds, depth, packing=0, parts=1):
+    """A pixel map, without the address before it."""
+    each = min(depth, 8) if depth != 16 else 5
+    return struct.pack(">H", row | 0x8000) + rect(*bounds) + struct.pack(">2H3I4H3I", 0, packing, 0, 72 << 16, 72 << 16, 16 if depth > 8 else 0, depth, parts, each, 0, 0, 0)
+
+
+def table(colours, in_order, rng):
+    """A table of colours: in their order, or each with its value, by chance."""
+    order = list(range(len(colours)))
+    if not in_order:
+        rng.shuffle(order)
+    entries = b"".join(struct.pack(">4H", 0 if in_order else value, *(part * 257 for part in colours[value])) for value in order)
+    return struct.pack(">I2H", 0, 0x8000 if in_order else 0, len(colours) - 1) + entries
+
+
+def spread(part):
+    """A part of five bits as one of eight."""
+    return part << 3 | part >> 2
+
+
+class Drawn:
+    """An opcode with a map whose dots are chosen by chance: its number, its operands, and the colours of its dots."""
+
+    def __init__(self, rng, code, depth, bounds, row=None, packing=0, parts=3, flat=False, in_order=False, **frames):
+        top, left, bottom, right = bounds
+        self.code, self.depth, self.packing, self.parts = code, depth, packing, parts
+        self.width, self.height = right - left, bottom - top
+        self.row = row or (self.width * depth + 15) // 16 * 2
+        if depth > 8:
+            front = b"\0\0\0\xff" + pixel_map(self.row, bounds, depth, packing, parts)
+            rows = self.direct(rng)
+        else:
+            colours = [WHITE, BLACK] if flat else [tuple(rng.randrange(256) for _ in range(3)) for _ in range(1 << depth)]
+            front = struct.pack(">H", self.row) + rect(*bounds) if flat else pixel_map(self.row, bounds, depth) + table(colours, in_order, rng)
+            rows = self.indexed(rng, colours)
+        source, target = frames.get("source", bounds), frames.get("target", bounds)
+        places = rect(*source) + rect(*target) + struct.pack(">H", frames.get("mode", 0))
+        self.opcode = (code, front + places + frames.get("mask", b"") + b"".join(rows))
+
+    def indexed(self, rng, colours):
+        """Rows of places in a table, packed where they are."""
+        values = [[rng.randrange(len(colours)) if rng.random() < 0.5 else 1 for _ in range(self.width)] for _ in range(self.height)]
+        self.dots = [[colours[value] for value in line] for line in values]
+        lines = ("".join(f"{value:0{self.depth}b}" for value in line).ljust(8 * self.row, "0") for line in values)
+        return [self.kept(int(line, 2).to_bytes(self.row, "big"), 1, self.code < 0x98) for line in lines]
+
+    def direct(self, rng):
+        """Rows of colours, as their packing has them."""
+        if self.depth == 16:
+            words = [[rng.randrange(32768) if rng.random() < 0.5 else 0x1234 for _ in range(self.width)] for _ in range(self.height)]
+            self.dots = [[tuple(spread(word >> shift & 31) for shift in (10, 5, 0)) for word in line] for line in words]
+            return [self.kept(struct.pack(f">{self.width}H", *line).ljust(self.row, b"\0"), 2, self.packing == 1) for line in words]
+        self.dots = [[tuple(rng.randrange(256) for _ in range(3)) if rng.random() < 0.5 else (1, 2, 3) for _ in range(self.width)] for _ in range(self.height)]
+        if self.packing == 1 or self.row < 8:
+            return [b"".join(b"\x55" + bytes(dot) for dot in line).ljust(self.row, b"\0") for line in self.dots]
+        if self.packing == 2:
+            return [b"".join(map(bytes, line)).ljust(self.row // 4 * 3, b"\0") for line in self.dots]
+        planes = [b"\x55" * self.width * (self.parts - 3) + b"".join(bytes(dot[part] for dot in line) for part in range(3)) for line in self.dots]
+        return [self.kept(line, 1, False) for line in planes]
+
+    def kept(self, line, unit, is_plain):
+        """A row as it is, or packed after its count."""
+        if is_plain or self.row < 8:
+            return line
+        packed = pack(line, unit)
+        return len(packed).to_bytes(2 if self.row > 250 else 1, "big") + packed

@@ -30,6 +30,7 @@ is_of_resource other = false
 -- terminal
 abbrev pub is_of_words : Problem → Bool
 is_of_words (problem.View (sight.NoPicture kind)) = true
+is_of_words (problem.View (sight.Undrawn fault)) = true
 is_of_words (problem.View sight.NoText) = true
 is_of_words (problem.View (sight.Compressed length)) = true
 is_of_words (problem.View sight.ManyPictures) = true

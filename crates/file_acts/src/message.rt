@@ -269,6 +269,7 @@ impl Problem {
             | Problem::InImage
             | Problem::IntoImage
             | Problem::View(NotShown::NoPicture(_))
+            | Problem::View(NotShown::Undrawn(_))
             | Problem::View(NotShown::NoText)
             | Problem::View(NotShown::Compressed(_))
             | Problem::View(NotShown::ManyPictures)

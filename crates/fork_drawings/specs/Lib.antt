@@ -6,4 +6,5 @@ pub mod Regions
 pub mod Spans
 pub mod Painting
 pub mod Brushes
+pub mod Lacking
 pub mod Pictures

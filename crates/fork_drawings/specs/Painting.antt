@@ -1,5 +1,5 @@
 -- What opcodes draw, dot by dot (Inside Macintosh: Imaging With QuickDraw, appendix A, "CopyBits").
-use Rattle.std.specs.Prelude.{◌≡◌, ◌≤◌, ◌<◌, ℕ, ◌+◌, ◌-◌, ◌*◌, ◌/◌, ◌%◌, ◌==◌, ◌&&◌, if◌then◌else◌, Bool, true, false, List, [], ◌∷◌, length, map, get_or, Option, Some, None, Result, Ok, Err}
+use Rattle.std.specs.Prelude.{◌≡◌, ◌≤◌, ◌<◌, ℕ, ◌+◌, ◌-◌, ◌*◌, ◌/◌, ◌%◌, ◌==◌, ◌&&◌, ◌||◌, if◌then◌else◌, Bool, true, false, List, [], ◌∷◌, length, map, get_or, Option, Some, None, Result, Ok, Err}
 use Rattle.std.specs.List.{range_with_len}
 use Rattle.fork_pictures.specs.declared.pixel.Colour.{Colour}
 use Rattle.fork_pictures.specs.declared.pixel.Pixel.{Pixel}
@@ -68,9 +68,13 @@ in_row bytes clip bits (Some row) x y pixel = in_column bytes clip bits (line bi
 unfoldable pub painted : List ℕ → Option ℕ → Bits → ℕ → ℕ → Pixel → Pixel
 painted bytes clip bits x y pixel = in_row bytes clip bits (origin (rows bits) y) x y pixel
 
--- the picture within a picture that an opcode draws
+-- a mode that copies: srcCopy, or ditherCopy, which is the same where all colours can be shown
+abbrev pub is_copy : ℕ → Bool
+is_copy mode = mode == 0 || mode == 64
+
+-- the picture within a picture that an opcode draws: a map whose mode copies
 abbrev pub right : Result Bits Fault → Option Bits
-right (Ok bits) = Some bits
+right (Ok bits) = if is_copy bits.mode then Some bits else None
 right (Err fault) = None
 
 abbrev pub bits_in : Shape → List ℕ → ℕ → Option Bits

@@ -10,7 +10,7 @@ ghost use Rattle.pict_bytes.specs.Planes.{IsInside};
 ghost use Rattle.pict_bytes.specs.Shapes.{shape_of};
 ghost use Rattle.fork_drawings.specs.Brushes.{IsBelow, brushed_by};
 ghost use Rattle.fork_drawings.specs.Lines.{next_place};
-ghost use Rattle.fork_drawings.specs.Painting.{IsPainted, bits_in, blank, clip_after, dot, drawn_once, painted};
+ghost use Rattle.fork_drawings.specs.Painting.{IsPainted, bits_in, blank, clip_after, dot, drawn_once, is_copy, painted};
 ghost use Rattle.fork_drawings.specs.Spans.{first_row, last_row};
 
 use crate::brush::{Brush, brush_of};
@@ -126,7 +126,14 @@ fn draw_bits(
     brush.paint(alloc, pixels, bytes, frame)
 }
 
-/// The picture within a picture that an opcode draws, if it draws one.
+/// Whether a mode copies the dots of a map: srcCopy, or ditherCopy, which is the same where all colours can be shown.
+fn is_copy(mode: u16) -> bool
+    ensures { result ≡ is_copy mode }
+{
+    mode == 0 || mode == 64
+}
+
+/// The picture within a picture that an opcode draws, if it draws one: a map whose mode copies.
 pub(crate) fn bits_of(bytes: &[u8], opcode: Opcode) -> Option<Bits>
     requires { length bytes.now ≤ 16777216 }
     ensures is { result ≡ bits_in (shape_of opcode.code) bytes.now opcode.start }
@@ -136,7 +143,10 @@ pub(crate) fn bits_of(bytes: &[u8], opcode: Opcode) -> Option<Bits>
 {
     match shape_of(opcode.code) {
         Shape::Bits { storage, is_masked } => {
-            bits_at(storage, is_masked, bytes, opcode.start as usize).ok()
+            match bits_at(storage, is_masked, bytes, opcode.start as usize) {
+                Ok(bits) if is_copy(bits.mode) => Some(bits),
+                _ => None,
+            }
         }
         _ => None,
     }

@@ -1,6 +1,7 @@
 //! Why a picture isn't drawn.
 
-use pict_bytes::fault::{Fault as Unread, NotRead};
+use crate::undrawn::Undrawn;
+use pict_bytes::fault::Fault as Unread;
 use std::alloc::AllocError;
 use thiserror::Error;
 
@@ -19,6 +20,9 @@ pub enum Fault {
     /// What it draws would take too long.
     #[error("what it draws, one over the other, would take too long")]
     TooMuch,
+    /// It draws something, and nothing of it is drawn.
+    #[error("it has {0}, and no bit map or pixel map that is drawn")]
+    Nothing(Undrawn),
 }
 
 /// Why there is no picture.

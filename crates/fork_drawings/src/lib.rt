@@ -6,11 +6,13 @@ mod bytes;
 mod dots;
 mod drawing;
 pub mod fault;
+mod lacking;
 mod lines;
 mod packed;
 mod palette;
 pub mod picture;
 mod region;
 mod span;
+pub mod undrawn;
 
 pub use picture::picture_of;

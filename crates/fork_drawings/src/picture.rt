@@ -8,8 +8,10 @@ ghost use Rattle.fork_drawings.specs.Pictures.{Draws, bits_work, drawn_work, fra
 
 use crate::drawing::{bits_of, clip_after, dots_of, first_row, last_row};
 use crate::fault::{Fault, NotDrawn};
+use crate::lacking::lacking;
 use crate::region::count_at;
-use fork_pictures::pixel::Pixel;
+use crate::undrawn::Undrawn;
+use fork_pictures::picture::Picture;
 use pict_bytes::bits::Rect;
 use pict_bytes::fault::NotRead;
 use pict_bytes::operands::Bits;
@@ -23,15 +25,12 @@ const MOST: u64 = 16_777_216;
 /// The most work that a picture may need.
 const MOST_WORK: u64 = 268_435_456;
 
-/// A picture: rows of dots, from the top. Each dot is seen.
+/// A picture that is drawn. Each pixel of it is seen.
 #[derive(Drop)]
 pub struct Drawing {
-    /// How many dots a row has.
-    pub width: u32,
-    /// How many rows there are.
-    pub height: u32,
-    /// The dots of all rows, from the left and the top.
-    pub dots: Vec<Pixel>,
+    pub picture: Picture,
+    /// What of it isn't drawn, if something isn't.
+    pub undrawn: Option<Undrawn>,
 }
 
 /// How many words the points of a region have, if there is one.
@@ -104,18 +103,18 @@ fn framed(alloc: Global, bytes: &[u8], frame: Rect, opcodes: &[Opcode]) -> Resul
     if is_too_much(bytes, frame, opcodes) {
         return Err(NotDrawn::Fault(Fault::TooMuch));
     }
+    let undrawn = lacking(bytes, opcodes)?;
     let dots = dots_of(alloc, bytes, frame, opcodes)?;
     Ok(Drawing {
-        width,
-        height,
-        dots,
+        picture: Picture::new(width, height, dots),
+        undrawn,
     })
 }
 
-/// What the bit maps and pixel maps of a 'PICT' resource draw, at most 16,777,216 dots. A dot is that of the last of them
-/// that covers it within the clip and its mask, else white. Nothing else is drawn yet: lines, shapes and text are passed
-/// over, and each map is drawn as if its mode were srcCopy; the result doesn't say so. A fault says that the bytes are no
-/// list of opcodes, that there is no dot or too many, or that drawing would take too long.
+/// What the bit maps and pixel maps of a 'PICT' resource draw whose mode is srcCopy or ditherCopy, at most 16,777,216
+/// dots. A dot is that of the last of them that covers it within the clip and its mask, else white. Nothing else is drawn:
+/// lines, shapes, texts and maps in other modes are counted. A fault says that the bytes are no list of opcodes, that
+/// there is no dot or too many, that drawing would take too long, or that something should be drawn, and none of it is.
 pub fn picture_of(alloc: Global, bytes: &[u8]) -> Result<Drawing, NotDrawn>
     ensures { Draws result (picture_of bytes.now) }
 {

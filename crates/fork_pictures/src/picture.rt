@@ -33,8 +33,8 @@ impl Picture {
     ghost use Rattle.fork_pictures.specs.Draws.{Draws};
     ghost use Rattle.fork_pictures.specs.Image.{scaled};
 
-    /// The picture with these pixels, row after row.
-    pub(crate) fn new(width: u32, height: u32, pixels: Vec<Pixel>) -> Picture
+    /// The picture with these pixels, row after row. They are at least 1 and at most 16,777,216.
+    pub fn new(width: u32, height: u32, pixels: Vec<Pixel>) -> Picture
         requires { IsImage (record { width = width; height = height; pixels = pixels.items }) }
         ensures { result ≡ record { width = width; height = height; pixels = pixels.items } }
     {

@@ -8,12 +8,13 @@ use crate::output::write_to;
 use crate::table_use::{TableUse, check_kinds};
 use file_acts::acts::{Acts, note_unpacked};
 use file_acts::host::Host;
-use file_acts::message::{DONE, Problem};
+use file_acts::message::{DONE, Problem, tell};
 use fork_bytes::table::{Row, Table};
 use fork_view::unpack::unpack;
 use fork_view::{Chosen, NotShown, Sight, Unpacking, sight_of};
 use fork_words::asked::Viewing;
 use new_folder::FolderCalls;
+use path_text::FileName;
 use std::io::IsTerminal;
 
 impl TableUse for Viewing<'_> {
@@ -32,15 +33,28 @@ impl TableUse for Viewing<'_> {
         let rows = table.rows.as_slice();
         check_kind(&self.view.chosen, rows)?;
         match sight_of(host.alloc(), &self.view, rows) {
-            Ok(sight) => show_sight(host, sight, self.output, acts),
+            Ok(sight) => show_sight(host, self.file, sight, self.output, acts),
             Err(fault) => Err(unseen(host, &self.view.chosen, fault)),
         }
     }
 }
 
-/// Writes what is shown. Those of several resources that can't be shown so are a problem after the others.
+/// Says what of a picture of the file of this name isn't drawn, if something isn't.
+fn note_undrawn(host: &Host<'_>, file: &str, sight: &Sight) {
+    if let Some(undrawn) = sight.undrawn {
+        let file_name = FileName(file);
+        let line = format!(in host.alloc();
+            "{file_name}: drawn without {undrawn}: only the bit maps and pixel maps of a picture are drawn\n"
+        );
+        tell(host, file, line);
+    }
+}
+
+/// Writes what is shown, and says what of a picture isn't drawn. Those of several resources that can't be shown so are a
+/// problem after the others.
 fn show_sight(
     host: &Host<'_>,
+    file: &str,
     sight: Sight,
     output: Option<&str>,
     acts: &mut Acts,
@@ -50,6 +64,7 @@ fn show_sight(
     ensures written { IfOk result (λ _. IsWritten output.entry sight.bytes.items acts.new.events) }
 {
     write_sight(host, &sight, output, acts)?;
+    note_undrawn(host, file, &sight);
     if sight.untold.is_empty() {
         return Ok(DONE);
     }

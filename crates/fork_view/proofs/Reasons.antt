@@ -1,5 +1,5 @@
 -- Resources that can't be shown in a form.
-use Rattle.std.proofs.Common.{◌≡◌, ◌⊎◌, inl, inr, ℕ, List, Bool, true, false, if◌then◌else◌, Option, None, Some, Result, Ok, Err, subst, sym}
+use Rattle.std.proofs.Common.{◌≡◌, ◌⊎◌, inl, inr, ℕ, List, Bool, true, false, if◌then◌else◌, Option, None, Some, Result, Ok, Err, refl, subst, sym}
 use Rattle.std.specs.Option.{option_map_or}
 use Rattle.fork_bytes.specs.Rows.{Row}
 use Rattle.fork_list.specs.Compressed.{unpacked_length}
@@ -9,8 +9,10 @@ use Rattle.fork_view.specs.declared.view.ShowAs.{ShowAs}
 use Rattle.fork_view.specs.declared.view.ShowAs.TheVariants.{Text, Hex, Png, Wav}
 use Rattle.fork_sounds.specs.declared.fault.Fault.{Fault}
 use Rattle.fork_sounds.specs.Sounds.{Recording, sound_of}
-use Rattle.fork_view.specs.Forms.{ends_early, is_sound}
-use Rattle.fork_view.specs.Sights.{ShowsRow, as_file, wav_file_of, why_no_text, why_untold}
+use Rattle.fork_drawings.specs.Pictures.{picture_of as sketch_of}
+use Rattle.fork_view.specs.declared.view.Sight.{Sight}
+use Rattle.fork_view.specs.Forms.{ends_early, is_drawing, is_sound, picture_file}
+use Rattle.fork_view.specs.Sights.{IsShownAs, ShowsDrawing, ShowsRow, as_file, is_sketch, lacking, wav_file_of, why_no_text, why_untold}
 
 -- the reason of one that isn't compressed is that a text ends too early
 only_text : (form : Option ShowAs) (row : Row) (why : NotShown) → why_no_text form row ≡ Some why → why ≡ unshown.NoText
@@ -69,3 +71,35 @@ shows_no_sound form rows row why asked (inr is) =
       | inl other ↦ subst P (sym other.1) (λ is. (asked, is)) is
       | inr silent ↦ subst P (sym silent.1) (λ is. (asked, is)) is
     ]
+
+-- a picture in QuickDraw's language is shown as one where no form is asked for, or a PNG file
+is_asked : (form : Option ShowAs) (row : Row) → is_sketch form row ≡ true → ((form ≡ None) ⊎ (form ≡ Some Png)) × (is_drawing row.kind ≡ true)
+is_asked None row is = (inl refl, is)
+is_asked (Some Png) row is = (inr refl, is)
+is_asked (Some Hex) row is = absurd cc
+is_asked (Some Text) row is = absurd cc
+is_asked (Some Wav) row is = absurd cc
+
+-- such a picture is shown, with what isn't drawn
+pub shows_drawing : (form : Option ShowAs) (rows : List Row) (row : Row) (result : Result Sight NotShown) → is_sketch form row ≡ true
+    → why_untold form row ≡ None → ShowsDrawing (sketch_of row.datum) result → ShowsRow form rows row result
+shows_drawing form rows row (Ok sight) asked whole is =
+    let own = is_asked form row asked in
+    let file : picture_file rows row ≡ Some sight.bytes.items = rw own.1 is.0 in
+    let lacks : sight.undrawn ≡ lacking form row = rw asked (sym is.1) in
+    let P : Bool → Type 0 = λ binary. IsShownAs form rows row binary sight.bytes.items in
+    (subst P (sym is.2) (inl (own.0, file)), whole, is.3, lacks)
+shows_drawing form rows row (Err (unshown.Undrawn fault)) asked whole is = (asked, is)
+shows_drawing form rows row (Err unshown.HostFull) asked whole is = tt
+shows_drawing form rows row (Err unshown.NotFound) asked whole is = absurd is
+shows_drawing form rows row (Err (unshown.NoPicture kind)) asked whole is = absurd is
+shows_drawing form rows row (Err unshown.NoText) asked whole is = absurd is
+shows_drawing form rows row (Err (unshown.Compressed length)) asked whole is = absurd is
+shows_drawing form rows row (Err (unshown.NoSound kind)) asked whole is = absurd is
+shows_drawing form rows row (Err (unshown.Unheard fault)) asked whole is = absurd is
+shows_drawing form rows row (Err unshown.ManyPictures) asked whole is = absurd is
+shows_drawing form rows row (Err unshown.ManySounds) asked whole is = absurd is
+
+-- of others nothing isn't drawn
+pub lacks_none : (form : Option ShowAs) (row : Row) → is_sketch form row ≡ false → None ≡ lacking form row
+lacks_none form row other = rw other refl

@@ -3,6 +3,7 @@
 ghost use Rattle.std.specs.Prelude.{◌≡◌, IfOk, false, option_copied, option_map, string_bytes};
 ghost use Rattle.fork_view.specs.Forms.{drawn_as, ends_early, is_text, mask_in, picture_file};
 
+use crate::drawing::{drawing_file, is_drawing};
 use fork_bytes::table::Row;
 use fork_list::find::{Key, Wanted};
 use fork_list::strings::{string_of, strings_of};
@@ -209,10 +210,13 @@ fn drawn_as(
     }
 }
 
-/// The PNG file of a resource, or None where it is no picture.
+/// The PNG file of a resource, or None where it is no picture. Of a 'PICT' it is what is drawn.
 pub fn png_of(alloc: Global, rows: &[Row], row: &Row) -> Result<Option<Vec<u8>>, AllocError>
     ensures { IfOk result (λ file. option_map (λ bytes. bytes.items) file ≡ picture_file rows.now row.now) }
 {
+    if is_drawing(row) {
+        return drawing_file(alloc, row);
+    }
     match drawn_as(alloc, rows, row, kind_of(row.kind.bytes()))? {
         Some(picture) => Ok(Some(png_file(alloc, &picture)?)),
         None => Ok(None),

@@ -1,6 +1,7 @@
 //! Resources shown to people, and unpacked to a folder.
 #![tactic(auto)]
 
+mod drawing;
 pub mod form;
 mod manifest;
 mod sound;

@@ -1,12 +1,14 @@
 //! Resources shown to people.
 
-ghost use Rattle.std.specs.Prelude.{◌≡◌, IfOk, OnOk, [], ◌∷◌, ◌++◌};
+ghost use Rattle.std.specs.Prelude.{◌≡◌, IfOk, OnOk, [], ◌∷◌, ◌++◌, None, false};
 ghost use Rattle.std.specs.List.{flat_map};
-ghost use Rattle.fork_view.specs.Sights.{ShowsChosen, ShowsRow, ShowsRows, is_of_kind, untold_in, untold_of, why_left_out, why_untold};
+ghost use Rattle.fork_view.specs.Sights.{ShowsChosen, ShowsRow, ShowsRows, is_of_kind, is_sketch, untold_in, untold_of, why_left_out, why_untold};
 
+use crate::drawing::{drawing_sight, is_drawing};
 use crate::form::{ends_early, is_text, png_of, push_hex, push_text};
 use crate::sound::{is_sound, push_sound, wav_of};
 use fork_bytes::table::Row;
+use fork_drawings::undrawn::Undrawn;
 use fork_list::find::Wanted;
 use fork_list::letters::Letters;
 use fork_list::{KindText, NamePart, Quoted, find_row, unpacked_length};
@@ -47,8 +49,11 @@ pub enum NotShown {
     #[error("the fork has no such resource")]
     NotFound,
     /// One of this type can't be a PNG file.
-    #[error("this {kind} is no picture that is written as a PNG file: such are icons, cursors, patterns and tables of colours whose bytes are right; --as hex writes hexadecimal digits, and --as text its bytes as text", kind = Quoted::single(Letters::Roman, &.0.bytes()))]
+    #[error("this {kind} is no picture that is written as a PNG file: such are 'PICT', icons, cursors, patterns and tables of colours whose bytes are right; --as hex writes hexadecimal digits, and --as text its bytes as text", kind = Quoted::single(Letters::Roman, &.0.bytes()))]
     NoPicture(ResType),
+    /// Nothing of a picture in QuickDraw's language is drawn.
+    #[error("this picture isn't written as a PNG file: {0}; --as hex shows its bytes")]
+    Undrawn(fork_drawings::fault::Fault),
     /// It can't be text.
     #[error("it ends before its texts do; --as hex shows its bytes")]
     NoText,
@@ -98,6 +103,8 @@ pub struct Sight {
     pub is_binary: bool,
     /// The resources that should be shown, too, and can't be in the form that is asked for.
     pub untold: Vec<Untold>,
+    /// What of a picture in QuickDraw's language isn't drawn, if something isn't.
+    pub undrawn: Option<Undrawn>,
 }
 
 /// Why a resource can't be shown in a form, or as its type says, where it is no picture.
@@ -167,6 +174,61 @@ fn push_title(text: &mut String, row: &Row) -> Result<(), AllocError> {
     writeln!(text, "{kind} {id}{name}")
 }
 
+/// Whether a picture in QuickDraw's language is shown as one: unless another form is asked for.
+fn is_sketch(row: &Row, form: Option<ShowAs>) -> bool
+    ensures { result ≡ is_sketch form row.now }
+{
+    match form {
+        None | Some(ShowAs::Png) => is_drawing(row),
+        _ => false,
+    }
+}
+
+/// One resource that isn't compressed, in another form than a picture in QuickDraw's language.
+fn sight_by_form(
+    alloc: Global,
+    rows: &[Row],
+    row: &Row,
+    form: Option<ShowAs>,
+) -> Result<Sight, NotShown>
+    requires whole { why_untold form row.now ≡ None }
+    requires other { is_sketch form row.now ≡ false }
+    ensures { ShowsRow form rows.now row.now result }
+{
+    if form == Some(ShowAs::Wav) {
+        return match wav_of(alloc, row) {
+            Ok(bytes) => Ok(Sight {
+                bytes,
+                is_binary: true,
+                untold: Vec::new(alloc),
+                undrawn: None,
+            }),
+            Err(why) => Err(why),
+        };
+    }
+    if (form.is_none() || form == Some(ShowAs::Png))
+        && let Some(bytes) = png_of(alloc, rows, row)?
+    {
+        return Ok(Sight {
+            bytes,
+            is_binary: true,
+            untold: Vec::new(alloc),
+            undrawn: None,
+        });
+    }
+    if form == Some(ShowAs::Png) {
+        return Err(NotShown::NoPicture(row.kind));
+    }
+    let mut text = String::new(alloc);
+    push_row(alloc, &mut text, row, form)?;
+    Ok(Sight {
+        bytes: text.into_bytes(),
+        is_binary: false,
+        untold: Vec::new(alloc),
+        undrawn: None,
+    })
+}
+
 /// One resource, as it is shown. An icon in colour has the mask of another of the rows.
 fn sight_of_row(
     alloc: Global,
@@ -179,35 +241,10 @@ fn sight_of_row(
     if let Some(why) = why_untold(alloc, row, form)? {
         return Err(why);
     }
-    if form == Some(ShowAs::Wav) {
-        return match wav_of(alloc, row) {
-            Ok(bytes) => Ok(Sight {
-                bytes,
-                is_binary: true,
-                untold: Vec::new(alloc),
-            }),
-            Err(why) => Err(why),
-        };
+    if is_sketch(row, form) {
+        return drawing_sight(alloc, row);
     }
-    if (form.is_none() || form == Some(ShowAs::Png))
-        && let Some(bytes) = png_of(alloc, rows, row)?
-    {
-        return Ok(Sight {
-            bytes,
-            is_binary: true,
-            untold: Vec::new(alloc),
-        });
-    }
-    if form == Some(ShowAs::Png) {
-        return Err(NotShown::NoPicture(row.kind));
-    }
-    let mut text = String::new(alloc);
-    push_row(alloc, &mut text, row, form)?;
-    Ok(Sight {
-        bytes: text.into_bytes(),
-        is_binary: false,
-        untold: Vec::new(alloc),
-    })
+    sight_by_form(alloc, rows, row, form)
 }
 
 /// Whether a type is the one that is asked for, if one is.
@@ -299,6 +336,7 @@ fn sight_of_rows(
         bytes: text.into_bytes(),
         is_binary: false,
         untold: others,
+        undrawn: None,
     })
 }
 

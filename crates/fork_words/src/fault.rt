@@ -63,6 +63,6 @@ pub enum Fault {
     #[error("--as takes text, hex, png or wav")]
     NoForm,
     /// The output's name ends as that of a picture or a sound which isn't made.
-    #[error("no file of this ending is made: show writes texts (--as text), hexadecimal digits (--as hex), as OUT.png 'ICON', 'ICN#', 'ics#', 'CURS' and 'SICN', and as OUT.wav 'snd '; get writes the bytes of a resource as they are")]
+    #[error("no file of this ending is made: show writes texts (--as text), hexadecimal digits (--as hex), as OUT.png pictures, and as OUT.wav 'snd '; get writes the bytes of a resource as they are")]
     NoEnding,
 }
