@@ -14,7 +14,7 @@ use Rattle.html_text.specs.Reader.{bare_end, bare_start, tags_in, tags_of}
 use Rattle.html_text.proofs.Reading.{no_markup, one_tag}
 use Rattle.fork_page.specs.declared.shown.Shown.{Shown}
 use Rattle.fork_page.specs.declared.shown.Shown.TheVariants as shown
-use Rattle.fork_page.specs.Articles.{article, body, element, hidden, picture, player, source_text, title_text}
+use Rattle.fork_page.specs.Articles.{article, body, element, hidden, picture, player, player_start, source_text, title_text}
 use Rattle.fork_page.specs.declared.shown.TheConstants.{FRONT}
 use Rattle.fork_page.specs.Laws.{HasNoOtherTags, is_known}
 use Rattle.fork_page.specs.Pages.{AreArticles}
@@ -60,6 +60,7 @@ pictures : (png title : List ℕ) → Adds (picture png title)
 pictures png title = starts Image ((Source, source_text (codes "data:image/png;base64,") png) ∷ (Alternative, title) ∷ []) refl
 
 players : (wav title : List ℕ) → Adds (player wav title)
+unfolding player_start
 players wav title =
     joined _ _ (starts Audio ((Controls, []) ∷ (Label, title) ∷ (Source, source_text (codes "data:audio/wav;base64,") wav) ∷ []) refl) (ends Audio refl)
 

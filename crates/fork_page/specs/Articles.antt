@@ -31,10 +31,13 @@ source_text kind file = kind ++ encode_of standard file
 abbrev pub picture : List ℕ → List ℕ → List ℕ
 picture png title = start_tag Image ((Source, source_text (codes "data:image/png;base64,") png) ∷ (Alternative, title) ∷ [])
 
--- the player of a sound, with what it is called
+-- the tag at which the player of a sound begins, with what it is called
+unfoldable pub player_start : List ℕ → List ℕ → List ℕ
+player_start wav title = start_tag Audio ((Controls, []) ∷ (Label, title) ∷ (Source, source_text (codes "data:audio/wav;base64,") wav) ∷ [])
+
+-- the player of a sound
 abbrev pub player : List ℕ → List ℕ → List ℕ
-player wav title =
-    start_tag Audio ((Controls, []) ∷ (Label, title) ∷ (Source, source_text (codes "data:audio/wav;base64,") wav) ∷ []) ++ end_tag Audio
+player wav title = player_start wav title ++ end_tag Audio
 
 -- a text that is hidden until it is asked for
 abbrev pub hidden : List ℕ → List ℕ → List ℕ

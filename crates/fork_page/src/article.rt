@@ -1,7 +1,7 @@
 //! A resource on a page.
 
 ghost use Rattle.std.specs.Prelude.{◌≡◌, ◌++◌, IfOk, OnOk, Some, option_map, string_bytes};
-ghost use Rattle.fork_page.specs.Articles.{article, body, compressed, element, hidden, picture, player, source_text, title_text};
+ghost use Rattle.fork_page.specs.Articles.{article, body, compressed, element, hidden, picture, player, player_start, source_text, title_text};
 ghost use Rattle.fork_page.specs.Shown.{IsShown};
 
 use crate::shown::{FRONT, Shown, shown_of};
@@ -76,9 +76,15 @@ fn push_picture(
     push_start(page, Tag::Image, &attributes)
 }
 
-/// Adds the player of a sound, which is called by the title.
-fn push_player(alloc: Global, page: &mut Vec<u8>, wav: &[u8], title: &str) -> Result<(), AllocError>
-    ensures { OnOk result (page.new.items ≡ page.old.items ++ player wav.now title.now) }
+/// Adds the tag at which the player of a sound begins, which is called by the title.
+#[tactic(auto, unfolding(crate::specs::Articles::player_start))]
+fn push_player_start(
+    alloc: Global,
+    page: &mut Vec<u8>,
+    wav: &[u8],
+    title: &str,
+) -> Result<(), AllocError>
+    ensures { OnOk result (page.new.items ≡ page.old.items ++ player_start wav.now title.now) }
 {
     let source = source_of(alloc, "data:audio/wav;base64,", wav)?;
     let attributes = [
@@ -95,7 +101,14 @@ fn push_player(alloc: Global, page: &mut Vec<u8>, wav: &[u8], title: &str) -> Re
             value: source.as_bytes(),
         },
     ];
-    push_start(page, Tag::Audio, &attributes)?;
+    push_start(page, Tag::Audio, &attributes)
+}
+
+/// Adds the player of a sound, which is called by the title.
+fn push_player(alloc: Global, page: &mut Vec<u8>, wav: &[u8], title: &str) -> Result<(), AllocError>
+    ensures { OnOk result (page.new.items ≡ page.old.items ++ player wav.now title.now) }
+{
+    push_player_start(alloc, page, wav, title)?;
     push_end(page, Tag::Audio)
 }
 
