@@ -132,6 +132,10 @@ def try_digits(program, path):
         shown = min(length, FRONT)
         must(page.articles[0]["summary"] == f"the first {shown} bytes", f"{length} bytes: {page.articles[0]['summary']!r}")
         must(page.articles[0]["pre"].count("\n") == -(-shown // 16), f"{length} bytes: other lines")
+    data = next(data for kind, data, _ in PICTURES if kind == b"PICT")
+    write(path, fork_of([Row(b"PICT", 128, None, 0, data)]))
+    _, page = page_of(program, [path])
+    must(page.articles[0]["summary"] == f"the first {min(len(data), FRONT)} bytes", "a picture in QuickDraw's language is drawn on a page")
 
 
 def try_sounds(program, path):
@@ -170,9 +174,10 @@ def main(resfork):
     with tempfile.TemporaryDirectory() as top:
         path, out = os.path.join(top, "fork"), os.path.join(top, "out.html")
         try:
-            pictures = [Row(kind, number, None, 0, data) for number, (kind, data, _) in enumerate(PICTURES)]
+            drawn = [it for it in PICTURES if it[0] != b"PICT"]
+            pictures = [Row(kind, number, None, 0, data) for number, (kind, data, _) in enumerate(drawn)]
             order = sorted(range(len(pictures)), key=lambda at: [row.kind for row in pictures].index(pictures[at].kind))
-            text, page = try_rows(resfork, path, [pictures[at] for at in order], [PICTURES[at][2] for at in order])
+            text, page = try_rows(resfork, path, [pictures[at] for at in order], [drawn[at][2] for at in order])
             try_policy(text, page)
             texts = [each for each in TEXTS if each[0] != b"snd "]
             for kind, data, body in texts:
@@ -191,5 +196,5 @@ def main(resfork):
         except (Difference, AssertionError) as difference:
             print(f"a page of files: {difference!r}")
             return 1
-    print(f"a page of files: {len(PICTURES)} pictures, {len(SOUNDS)} sounds, {len(texts)} texts and {len(HOSTILE)} hostile names as they should be")
+    print(f"a page of files: {len(drawn)} pictures, {len(SOUNDS)} sounds, {len(texts)} texts and {len(HOSTILE)} hostile names as they should be")
     return 0

@@ -7,8 +7,12 @@ use Rattle.fork_list.specs.Compressed.{unpacked_length}
 use Rattle.fork_page.specs.declared.shown.Shown.{Shown}
 use Rattle.fork_page.specs.declared.shown.Shown.TheVariants as shown
 use Rattle.fork_page.specs.declared.shown.TheConstants.{MOST_PLAYED}
-use Rattle.fork_view.specs.Forms.{picture_file}
+use Rattle.fork_view.specs.Forms.{is_drawing, picture_file}
 use Rattle.fork_view.specs.Sights.{wav_file_of}
+
+-- its picture as a PNG file, but that of one in QuickDraw's language
+abbrev pub pictured : List Row → Row → Option (List ℕ)
+pictured rows row = if is_drawing row.kind then None else picture_file rows row
 
 -- a WAV file that isn't too long to be played
 abbrev pub played : List ℕ → Option (List ℕ)
@@ -26,10 +30,10 @@ IsPlain (shown.Sound wav) = ⊥
 IsPlain (shown.Text text) = ⊤
 IsPlain (shown.Digits text) = ⊤
 
--- its picture, if it is one; else that it is compressed, and how long it would be; else its sound, if one is played; else a text, or its
--- first bytes
+-- its picture, if it is one; else that it is compressed, and how long it would be; else its sound, if one is played; else a
+-- text, or its first bytes
 abbrev pub IsShown : List Row → Row → Shown → Type 0
-IsShown rows row (shown.Picture png) = picture_file rows row ≡ Some png.items
-IsShown rows row (shown.Compressed length) = (picture_file rows row ≡ None) × (unpacked_length row.attributes.0 row.datum ≡ Some length)
-IsShown rows row (shown.Sound wav) = (picture_file rows row ≡ None) × (unpacked_length row.attributes.0 row.datum ≡ None) × (sound_file row ≡ Some wav.items)
-IsShown rows row other = (picture_file rows row ≡ None) × (unpacked_length row.attributes.0 row.datum ≡ None) × (sound_file row ≡ None) × IsPlain other
+IsShown rows row (shown.Picture png) = pictured rows row ≡ Some png.items
+IsShown rows row (shown.Compressed length) = (pictured rows row ≡ None) × (unpacked_length row.attributes.0 row.datum ≡ Some length)
+IsShown rows row (shown.Sound wav) = (pictured rows row ≡ None) × (unpacked_length row.attributes.0 row.datum ≡ None) × (sound_file row ≡ Some wav.items)
+IsShown rows row other = (pictured rows row ≡ None) × (unpacked_length row.attributes.0 row.datum ≡ None) × (sound_file row ≡ None) × IsPlain other

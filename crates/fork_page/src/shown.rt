@@ -1,12 +1,12 @@
 //! How a resource is shown on a page.
 
 ghost use Rattle.std.specs.Prelude.{◌≡◌, IfOk, option_map};
-ghost use Rattle.fork_page.specs.Shown.{IsPlain, IsShown, sound_file};
+ghost use Rattle.fork_page.specs.Shown.{IsPlain, IsShown, pictured, sound_file};
 
 use fork_bytes::table::Row;
 use fork_list::unpacked_length;
 use fork_view::form::{is_text, png_of, push_hex, push_text};
-use fork_view::{NotShown, wav_of};
+use fork_view::{NotShown, is_drawing, wav_of};
 use std::alloc::{AllocError, Global};
 
 /// How many bytes of a resource are shown in hexadecimal digits, if nothing better is known of it.
@@ -50,6 +50,17 @@ fn text_of(alloc: Global, row: &Row) -> Result<Shown, AllocError>
     digits_of(alloc, row.datum.as_slice())
 }
 
+/// The PNG file that is shown of a resource among these, or None where it is no picture, or one in QuickDraw's language:
+/// each of these may take seconds to draw.
+fn pictured(alloc: Global, rows: &[Row], row: &Row) -> Result<Option<Vec<u8>>, AllocError>
+    ensures { IfOk result (λ file. option_map (λ bytes. bytes.items) file ≡ pictured rows.now row.now) }
+{
+    if is_drawing(row) {
+        return Ok(None);
+    }
+    png_of(alloc, rows, row)
+}
+
 /// The WAV file that is played of a resource, or None where it is no sound, or one that is too long.
 fn sound_file(alloc: Global, row: &Row) -> Result<Option<Vec<u8>>, AllocError>
     ensures { IfOk result (λ file. option_map (λ bytes. bytes.items) file ≡ sound_file row.now) }
@@ -65,7 +76,7 @@ fn sound_file(alloc: Global, row: &Row) -> Result<Option<Vec<u8>>, AllocError>
 pub(crate) fn shown_of(alloc: Global, rows: &[Row], row: &Row) -> Result<Shown, AllocError>
     ensures { IfOk result (IsShown rows.now row.now) }
 {
-    if let Some(png) = png_of(alloc, rows, row)? {
+    if let Some(png) = pictured(alloc, rows, row)? {
         return Ok(Shown::Picture(png));
     }
     if let Some(length) = unpacked_length(row.attributes, row.datum.as_slice()) {

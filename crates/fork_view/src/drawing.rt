@@ -12,8 +12,8 @@ use fork_drawings::picture_of;
 use fork_pictures::png_file;
 use std::alloc::{AllocError, Global};
 
-/// Whether the resources of a type are pictures in QuickDraw's language.
-pub(crate) fn is_drawing(row: &Row) -> bool
+/// Whether the resources of a type are pictures in QuickDraw's language: 'PICT'.
+pub fn is_drawing(row: &Row) -> bool
     ensures { result ≡ is_drawing row.now.kind }
 {
     matches!(&row.kind.bytes(), b"PICT")

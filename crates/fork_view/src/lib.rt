@@ -8,6 +8,7 @@ mod sound;
 pub mod unpack;
 mod view;
 
+pub use drawing::is_drawing;
 pub use sound::wav_of;
 pub use unpack::{NotUnpacked, Unpacking};
 pub use view::{Chosen, NotShown, ShowAs, Sight, Untold, View, sight_of};
