@@ -12,7 +12,7 @@ use Rattle.fork_drawings.specs.declared.region.Region.{Region}
 use Rattle.fork_drawings.specs.Brushes.{IsBrush, IsMask, brushed_by, has_in, in_line, in_place}
 use Rattle.fork_drawings.specs.Lines.{line}
 use Rattle.fork_drawings.specs.Painting.{dot_of, in_column, in_mask, in_row, painted, palette_of}
-use Rattle.fork_drawings.specs.Regions.{has, has_at, is_rectangle, points_at}
+use Rattle.fork_drawings.specs.Regions.{has, has_at, is_rectangle}
 use Rattle.fork_drawings.specs.Spans.{columns, origin, rows}
 
 -- a region that was read has the dots of that in the bytes

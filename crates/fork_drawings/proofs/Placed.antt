@@ -1,6 +1,6 @@
 -- Where the dots of a frame are, and places in bytes.
 use Rattle.std.proofs.Common.{◌≡◌, ℕ, ◌+◌, ◌-◌, ◌*◌, ◌/◌, ◌%◌, ◌<◌, ◌≤◌, List, Option, Some, None, length, ap, ◌∙◌, arith}
-use Rattle.std.proofs.lemmas.Nat.{div-mul-add, div_below, mod-mul-add}
+use Rattle.std.proofs.lemmas.Nat.{div-mul-add, mod-mul-add}
 use Rattle.pict_bytes.specs.declared.plane.Colours.{Colours}
 use Rattle.pict_bytes.specs.declared.plane.Colours.TheVariants.{BlackAndWhite, Table, Direct}
 use Rattle.pict_bytes.specs.Operands.{IsMaskInside}

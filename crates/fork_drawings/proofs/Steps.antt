@@ -1,5 +1,5 @@
 -- One step of a loop, and what is left.
-use Rattle.std.proofs.Common.{◌≡◌, ℕ, zero, suc, ◌+◌, ◌-◌, ◌*◌, ◌<◌, ◌≤◌, List, [], ◌∷◌, ◌++◌, length, map, take, drop, get_or, Bool, false, refl, ap, ◌∙◌, sym, arith}
+use Rattle.std.proofs.Common.{◌≡◌, ℕ, zero, suc, ◌+◌, ◌-◌, ◌<◌, ◌≤◌, List, [], ◌∷◌, ◌++◌, length, map, drop, get_or, false, refl, ap, ◌∙◌, sym, arith}
 use Rattle.std.specs.Fn.{iterate}
 use Rattle.std.specs.List.{range_with_len}
 use Rattle.std.proofs.lemmas.List.FromFn.{get_or-map-range_with_len, length-map-range_with_len, map-range_with_len_more}
@@ -78,5 +78,5 @@ rest_more f n i below = let more : n - i ≡ suc (n - (i + 1)) = omega arith in 
 pub by_place : (f : ℕ → ℕ) (n i : ℕ) (xs : List ℕ) → xs ≡ map f (range_with_len 0 n) → i < n → get_or xs i 0 ≡ f i
 by_place f n i xs is below = ap (λ (ys : List ℕ). get_or ys i 0) is ∙ get_or-map-range_with_len f 0 n i i 0 below (omega arith)
 
-pub long_by_places : (f : ℕ → ℕ) (n : ℕ) (xs : List ℕ) → xs ≡ map f (range_with_len 0 n) → length xs ≡ n
-long_by_places f n xs is = ap (λ (ys : List ℕ). length ys) is ∙ length-map-range_with_len f 0 n
+pub long_by_places : {X : Type 0} (f : ℕ → X) (n : ℕ) (xs : List X) → xs ≡ map f (range_with_len 0 n) → length xs ≡ n
+long_by_places f n xs is = ap (λ (ys : List _). length ys) is ∙ length-map-range_with_len f 0 n

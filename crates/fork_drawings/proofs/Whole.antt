@@ -8,7 +8,7 @@ use Rattle.fork_pictures.specs.Image.{pixels_of}
 use Rattle.pict_bytes.specs.declared.bits.Rect.{Rect}
 use Rattle.pict_bytes.specs.declared.sequence.Opcode.{Opcode}
 use Rattle.pict_bytes.specs.Maps.{height, width}
-use Rattle.fork_drawings.specs.Painting.{IsPainted, blank, clip_after, dot, drawn_by, drawn_once, unseen}
+use Rattle.fork_drawings.specs.Painting.{blank, clip_after, dot, drawn_by, drawn_once, unseen}
 
 -- the next opcode
 drawn_step : (bytes : List ℕ) (clip : Option ℕ) (opcodes : List Opcode) (i : ℕ) (default : Opcode) (x y : ℕ) (pixel : Pixel) → i < length opcodes

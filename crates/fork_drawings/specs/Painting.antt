@@ -1,5 +1,5 @@
 -- What opcodes draw, dot by dot (Inside Macintosh: Imaging With QuickDraw, appendix A, "CopyBits").
-use Rattle.std.specs.Prelude.{◌≡◌, ◌≤◌, ◌<◌, ℕ, ◌+◌, ◌-◌, ◌*◌, ◌/◌, ◌%◌, ◌==◌, ◌&&◌, ◌||◌, if◌then◌else◌, Bool, true, false, List, [], ◌∷◌, length, map, get_or, Option, Some, None, Result, Ok, Err}
+use Rattle.std.specs.Prelude.{◌≡◌, ◌≤◌, ◌<◌, ℕ, ◌+◌, ◌-◌, ◌*◌, ◌==◌, ◌&&◌, ◌||◌, if◌then◌else◌, Bool, true, false, List, [], ◌∷◌, length, map, get_or, Option, Some, None, Result, Ok, Err}
 use Rattle.std.specs.List.{range_with_len}
 use Rattle.fork_pictures.specs.declared.pixel.Colour.{Colour}
 use Rattle.fork_pictures.specs.declared.pixel.Pixel.{Pixel}
@@ -14,7 +14,7 @@ use Rattle.pict_bytes.specs.declared.plane.Packing.TheVariants.{NoPadding, Parts
 use Rattle.pict_bytes.specs.declared.sequence.Opcode.{Opcode}
 use Rattle.pict_bytes.specs.declared.shape.Shape.{Shape}
 use Rattle.pict_bytes.specs.declared.shape.Shape.TheVariants as shape
-use Rattle.pict_bytes.specs.Maps.{height, width}
+use Rattle.pict_bytes.specs.Maps.{width}
 use Rattle.pict_bytes.specs.Operands.{bits_at}
 use Rattle.pict_bytes.specs.Shapes.{shape_of}
 use Rattle.fork_drawings.specs.Dots.{dot_15, levels, parts_at, value_in}

@@ -4,7 +4,6 @@ use Rattle.fork_pictures.specs.Image.{Image, most, raster}
 use Rattle.pict_bytes.specs.declared.bits.Rect.{Rect}
 use Rattle.pict_bytes.specs.declared.fault.Fault.{Fault as Unread}
 use Rattle.pict_bytes.specs.declared.operands.Bits.{Bits}
-use Rattle.pict_bytes.specs.declared.sequence.Head.{Head}
 use Rattle.pict_bytes.specs.declared.sequence.Opcode.{Opcode}
 use Rattle.pict_bytes.specs.Maps.{height, width}
 use Rattle.pict_bytes.specs.Sequence.{head_of, opcodes_of}

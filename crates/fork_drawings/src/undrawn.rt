@@ -24,25 +24,54 @@ pub struct Undrawn {
     pub moves: usize,
 }
 
+/// How many there are of a kind, and what one and several of it are called.
+#[derive(Clone, Copy)]
+struct Part {
+    count: usize,
+    one: &'static str,
+    many: &'static str,
+}
+
+impl Part {
+    /// So many of a kind, and its names.
+    fn new(count: usize, one: &'static str, many: &'static str) -> Part
+        ensures count { result.count ≡ count }
+        ensures one { result.one.now ≡ one.now }
+        ensures many { result.many.now ≡ many.now }
+    {
+        Part { count, one, many }
+    }
+
+    /// What so many of the kind are called.
+    fn name(&self) -> &'static str {
+        if self.count == 1 { self.one } else { self.many }
+    }
+}
+
 impl Undrawn {
+    ghost use Rattle.std.specs.Prelude.{map};
     ghost use Rattle.fork_drawings.specs.Lacking.{counts, is_empty};
 
-    /// How many there are of each kind.
-    fn counts(&self) -> [usize; 11]
-        ensures { result ≡ counts self.now }
+    /// Each kind: how many there are, and its names.
+    fn parts(&self) -> [Part; 11]
+        ensures { map (λ part. part.count) result ≡ counts self.now }
     {
         [
-            self.lines,
-            self.rectangles,
-            self.round_rectangles,
-            self.ovals,
-            self.arcs,
-            self.polygons,
-            self.regions,
-            self.texts,
-            self.maps,
-            self.images,
-            self.moves,
+            Part::new(self.lines, "line", "lines"),
+            Part::new(self.rectangles, "rectangle", "rectangles"),
+            Part::new(
+                self.round_rectangles,
+                "rounded rectangle",
+                "rounded rectangles",
+            ),
+            Part::new(self.ovals, "oval", "ovals"),
+            Part::new(self.arcs, "arc", "arcs"),
+            Part::new(self.polygons, "polygon", "polygons"),
+            Part::new(self.regions, "region", "regions"),
+            Part::new(self.texts, "text", "texts"),
+            Part::new(self.maps, "map in another mode", "maps in other modes"),
+            Part::new(self.images, "QuickTime image", "QuickTime images"),
+            Part::new(self.moves, "move of the origin", "moves of the origin"),
         ]
     }
 
@@ -50,35 +79,7 @@ impl Undrawn {
     pub(crate) fn is_empty(&self) -> bool
         ensures { result ≡ is_empty self.now }
     {
-        self.counts().iter().all(|count| *count == 0)
-    }
-}
-
-/// What one of a kind is called, or several of it, by its place.
-fn name_of(place: usize, count: usize) -> &'static str {
-    match (place, count) {
-        (0, 1) => "line",
-        (0, _) => "lines",
-        (1, 1) => "rectangle",
-        (1, _) => "rectangles",
-        (2, 1) => "rounded rectangle",
-        (2, _) => "rounded rectangles",
-        (3, 1) => "oval",
-        (3, _) => "ovals",
-        (4, 1) => "arc",
-        (4, _) => "arcs",
-        (5, 1) => "polygon",
-        (5, _) => "polygons",
-        (6, 1) => "region",
-        (6, _) => "regions",
-        (7, 1) => "text",
-        (7, _) => "texts",
-        (8, 1) => "map in another mode",
-        (8, _) => "maps in other modes",
-        (9, 1) => "QuickTime image",
-        (9, _) => "QuickTime images",
-        (_, 1) => "move of the origin",
-        (_, _) => "moves of the origin",
+        self.parts().iter().all(|part| part.count == 0)
     }
 }
 
@@ -93,11 +94,12 @@ fn joint(left: usize) -> &'static str {
 
 impl fmt::Display for Undrawn {
     fn fmt<W: fmt::Write>(&self, f: &mut fmt::Formatter<W>) -> fmt::Result {
-        let counts = self.counts();
-        let mut left = counts.iter().filter(|count| **count > 0).count();
-        for (place, count) in counts.iter().enumerate() {
-            if *count > 0 {
-                let name = name_of(place, *count);
+        let parts = self.parts();
+        let mut left = parts.iter().filter(|part| part.count > 0).count();
+        for part in &parts {
+            if part.count > 0 {
+                let count = part.count;
+                let name = part.name();
                 left = left.saturating_sub(1);
                 let joint = joint(left);
                 write!(f, "{count} {name}{joint}")?;

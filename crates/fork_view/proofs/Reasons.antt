@@ -99,7 +99,3 @@ shows_drawing form rows row (Err (unshown.NoSound kind)) asked whole is = absurd
 shows_drawing form rows row (Err (unshown.Unheard fault)) asked whole is = absurd is
 shows_drawing form rows row (Err unshown.ManyPictures) asked whole is = absurd is
 shows_drawing form rows row (Err unshown.ManySounds) asked whole is = absurd is
-
--- of others nothing isn't drawn
-pub lacks_none : (form : Option ShowAs) (row : Row) → is_sketch form row ≡ false → None ≡ lacking form row
-lacks_none form row other = rw other refl

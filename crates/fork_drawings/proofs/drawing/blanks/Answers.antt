@@ -1,4 +1,4 @@
-use Rattle.std.proofs.Common.{◌≡◌, ◌∙◌, ap, List, [], ◌∷◌, ◌++◌}
+use Rattle.std.proofs.Common.{◌∙◌, ap, List, [], ◌∷◌, ◌++◌}
 use Rattle.std.proofs.lemmas.List.{replicate_more}
 use Rattle.fork_pictures.specs.declared.pixel.Pixel.{Pixel}
 use Rattle.fork_drawings.specs.Painting.{blank}

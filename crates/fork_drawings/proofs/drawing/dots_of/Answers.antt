@@ -1,9 +1,9 @@
-use Rattle.std.proofs.Common.{◌≡◌, ℕ, ◌+◌, ◌*◌, ◌/◌, ◌%◌, ◌<◌, ◌∙◌, ap, sym, List, ◌++◌, take, drop, length, get_or, replicate, arith}
+use Rattle.std.proofs.Common.{◌≡◌, ℕ, ◌+◌, ◌*◌, ◌/◌, ◌%◌, ◌∙◌, ap, List, ◌++◌, take, drop, length, get_or, replicate, arith}
 use Rattle.std.proofs.lemmas.List.{take_at}
 use Rattle.fork_pictures.specs.declared.pixel.Pixel.{Pixel}
 use Rattle.pict_bytes.specs.declared.sequence.Opcode.{Opcode}
 use Rattle.pict_bytes.specs.Maps.{height, width}
-use Rattle.fork_drawings.specs.Painting.{IsPainted, blank, drawn_once, unseen}
+use Rattle.fork_drawings.specs.Painting.{blank, drawn_once, unseen}
 use Rattle.fork_drawings.proofs.Whole.{blank_each, blank_long, more_each, whole}
 use Rattle.fork_drawings.proofs.drawing.dots_of.Goals as goal
 

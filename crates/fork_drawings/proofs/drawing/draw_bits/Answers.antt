@@ -1,7 +1,6 @@
-use Rattle.std.proofs.Common.{◌≡◌, ℕ, ◌+◌, ◌*◌, ◌/◌, ◌%◌, ◌≤◌, ap, arith}
+use Rattle.std.proofs.Common.{ℕ, ◌+◌, ◌*◌, ◌/◌, ◌%◌}
 use Rattle.std.proofs.lemmas.Result.{on_ok_weaker}
 use Rattle.fork_pictures.specs.declared.pixel.Pixel.{Pixel}
-use Rattle.pict_bytes.specs.declared.operands.Bits.{Bits}
 use Rattle.pict_bytes.specs.Maps.{height, width}
 use Rattle.fork_drawings.specs.Brushes.{brushed_by}
 use Rattle.fork_drawings.specs.Painting.{IsPainted, painted}

@@ -1,4 +1,4 @@
-use Rattle.std.proofs.Common.{◌≡◌, ◌-◌, ◌+◌, ◌++◌, ◌∙◌, ap, List, ℕ}
+use Rattle.std.proofs.Common.{◌-◌, ◌+◌, ◌++◌, ◌∙◌, ap, List, ℕ}
 use Rattle.fork_drawings.specs.Packed.{repeated}
 use Rattle.fork_drawings.proofs.Steps.{appended, repeated_step}
 use Rattle.fork_drawings.proofs.packed.push_times.Goals as goal

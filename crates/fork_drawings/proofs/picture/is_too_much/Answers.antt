@@ -1,4 +1,4 @@
-use Rattle.std.proofs.Common.{◌≡◌, ℕ, ◌+◌, ◌<◌, ◌≤◌, ◌∙◌, ap, sym, Option, None, drop, get_or, arith}
+use Rattle.std.proofs.Common.{◌≡◌, ℕ, ◌+◌, ◌∙◌, ap, sym, Option, None, drop, get_or, arith}
 use Rattle.pict_bytes.specs.declared.sequence.Opcode.{Opcode}
 use Rattle.fork_drawings.specs.Painting.{clip_after}
 use Rattle.fork_drawings.specs.Pictures.{work_of}

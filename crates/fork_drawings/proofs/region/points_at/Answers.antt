@@ -1,8 +1,7 @@
-use Rattle.std.proofs.Common.{◌≡◌, ◌+◌, ◌-◌, ◌<◌, ◌≤◌, ◌∙◌, sym, ap, subst, ℕ, Bool, true, false, List, ◌++◌, map, arith}
-use Rattle.std.specs.List.{range_with_len}
+use Rattle.std.proofs.Common.{◌≡◌, ◌∙◌, sym, ap, ℕ, true, List, ◌++◌, arith}
 use Rattle.std.proofs.lemmas.List.{append-nil}
 use Rattle.fork_drawings.specs.declared.region.Point.{Point}
-use Rattle.fork_drawings.specs.Regions.{added, count_at, is_end, points_in, row_after, word_of}
+use Rattle.fork_drawings.specs.Regions.{count_at, is_end, word_of}
 use Rattle.fork_drawings.proofs.Pointed.{no_words, points_end, points_next}
 use Rattle.fork_drawings.proofs.region.points_at.Goals as goal
 

@@ -1,4 +1,4 @@
-use Rattle.std.proofs.Common.{◌∙◌, sym}
+use Rattle.std.proofs.Common.{rules, ◌∙◌, sym}
 use Rattle.fork_view.proofs.Reasons.{shows_drawing, shows_none}
 use Rattle.fork_view.proofs.view.sight_of_row.Goals as goal
 
@@ -8,4 +8,4 @@ returns-in-Some c = shows_none c.args.form c.args.rows.now c.args.row.now c.in-S
 pub returns-then-is_sketch : goal.returns-then-is_sketch
 returns-then-is_sketch c =
     shows_drawing c.args.form c.args.rows.now c.args.row.now c.drawing_sight.result (sym c.is_sketch.ensures ∙ c.if-is_sketch.true)
-    (sym c.in_ok-why.ensures ∙ c.in-None.is) c.drawing_sight.ensures
+    (search rules) c.drawing_sight.ensures

@@ -1,6 +1,6 @@
-use Rattle.std.proofs.Common.{◌≡◌, ◌≤◌, ℕ, ◌+◌, ◌*◌, ◌/◌, ◌%◌, length}
+use Rattle.std.proofs.Common.{ℕ, ◌+◌, ◌*◌, ◌/◌, ◌%◌}
 use Rattle.fork_pictures.specs.declared.pixel.Pixel.{Pixel}
-use Rattle.pict_bytes.specs.Maps.{height, width}
+use Rattle.pict_bytes.specs.Maps.{width}
 use Rattle.fork_drawings.specs.Brushes.{brushed_by}
 use Rattle.fork_drawings.specs.Painting.{IsPainted}
 use Rattle.fork_drawings.specs.Spans.{first_row}

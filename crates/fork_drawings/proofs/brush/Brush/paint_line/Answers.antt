@@ -1,4 +1,4 @@
-use Rattle.std.proofs.Common.{◌≡◌, ℕ, ◌+◌, ◌-◌, ◌*◌, ◌<◌, ◌∙◌, ap, subst, List, Some, length, get_or, arith}
+use Rattle.std.proofs.Common.{◌≡◌, ℕ, ◌+◌, ◌-◌, ◌*◌, ◌<◌, ◌∙◌, ap, subst, Some, get_or, arith}
 use Rattle.std.specs.Fn.{iterate}
 use Rattle.fork_pictures.specs.declared.pixel.Pixel.{Pixel}
 use Rattle.pict_bytes.specs.Maps.{height, width}
