@@ -7,8 +7,8 @@ returns-then-eq-clause-saved c = λ for. let new = c.change_file.new.acts.events
     changed_saved c.change_file.result new (c.change_file.ensures.saved for) (λ old ends. ends_as old ends.0 new ends.2)
 
 pub returns-in-Ok-Some-clause-saved : goal.returns-in-Ok-Some-clause-saved
-returns-in-Ok-Some-clause-saved c = λ for. let new = c.change_file.new.acts.events in
-    changed_saved c.change_file.result new (c.change_file.ensures.saved for) (λ old ends. ends_as old ends.0 new ends.2)
+returns-in-Ok-Some-clause-saved c = λ for. let new = c.change_file-in-Ok-Some.new.acts.events in
+    changed_saved c.change_file-in-Ok-Some.result new (c.change_file-in-Ok-Some.ensures.saved for) (λ old ends. ends_as old ends.0 new ends.2)
 
 pub returns-in-Ok-None-clause-saved : goal.returns-in-Ok-None-clause-saved
 returns-in-Ok-None-clause-saved c = λ for. let new = c.create_file.new.acts.events in
