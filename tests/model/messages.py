@@ -322,7 +322,7 @@ ROWS = {
         "sparse": "a sparse disk image of Mac OS X",
         "raw CD": "a CD in raw sectors of 2352 bytes",
         "DiskCopy image": "a DiskCopy 4.2 image",
-        "map": "a disk with a partition map",
+        "mapped disk": "a disk with a partition map",
         "old map": "a disk with a partition map of the Macintosh Plus",
         "volume of": "a volume of {format}",
         "HFS Plus": "HFS Plus",
