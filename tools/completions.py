@@ -17,7 +17,7 @@ OPTION = re.compile(r'\.arg\((\w+)_option\(alloc, "(\w+)", (\w+)\)\)')
 LOOK_OPTION = re.compile(r'\.arg\(option\(alloc, "(\w+)", "(\w+)", (\w+)\)\)|\.arg\(flag_option\(alloc, "(\w+)", "([^"]*)"\)\)')
 HELP = re.compile(r'let (\w+_help) =\s*"([^"]*)";')
 # what an operand or a value is called that names a file, or a folder
-FILES, FOLDERS = {"FILE", "LINES", "IN", "OUT", "A", "B", "FROM", "TYPE[:ID]|TO"}, {"DIR"}
+FILES, FOLDERS = {"FILE", "FILE|DIR", "LINES", "IN", "OUT", "A", "B", "FROM", "TYPE[:ID]|TO"}, {"DIR"}
 # the values of those that have only some
 CHOICES = {"as": ["text", "hex", "png", "wav"], "data": ["base64"], "to": ["raw", "appledouble", "applesingle", "macbinary", "binhex"], "mode": ["24", "32"]}
 

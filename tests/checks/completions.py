@@ -28,7 +28,7 @@ LINES = [
     (["resfork", "show", "b", "--as", ""], ["text", "hex", "png", "wav"]), (["resfork", "ls", ""], ["a file", "b", "c dir"]), (["resfork", "ls", "b", "a"], ["a file"]),
     (["resfork", "ls", "-t", ""], []), (["resfork", "get", "b", ""], []), (["resfork", "get", "b", "TEXT", "128", "-o", "a"], ["a file"]), (["resfork", "unpack", "b", ""], ["c dir"]),
     (["resfork", "put", "-q", "-i", "b", ""], ["a file", "b", "c dir"]), (["resfork", "diff", "b", "a"], ["a file"]), (["resfork", "diff", "b", "a", ""], []),
-    (["resfork", "cp", "b", "TEXT", "a"], ["a file"]), (["macheap", "--fork", "a"], ["a file"]), (["macheap", "--mode", ""], ["24", "32"]), (["macheap", "--look", "a"], ["a file"]), (["macheap", "--look", "b", "--j"], ["--json"]),
+    (["resfork", "cp", "b", "TEXT", "a"], ["a file"]), (["resfork", "find", "-t", "TEXT", "a"], ["a file"]), (["macheap", "--fork", "a"], ["a file"]), (["macheap", "--mode", ""], ["24", "32"]), (["macheap", "--look", "a"], ["a file"]), (["macheap", "--look", "b", "--j"], ["--json"]),
     (["macheap", "--look", "b", "--mode", ""], ["24", "32"]), (["macheap", "--zone", ""], []), (["macheap", ""], []),
 ]
 

@@ -1,9 +1,9 @@
-"""Checks that `resfork ls` and `resfork get` read of a raw fork only its header, its map, and the lengths and bytes that they show.
+"""Checks that `resfork ls` and `resfork get` read of a raw fork only its front, its map, and the lengths and bytes that they show.
 
 Of random forks of tests/checks/forks.py, alone and with bytes after them, what is shown is compared with the model, and with what is
 shown of the same bytes on the standard input, which is read whole. Of forks of 1 KB to 16.8 MB, the last with its map past 16 MB, the
-bytes that a run reads are counted, too: wanted are at most those that it reads of an empty file, the first 128 and 256, the map, four
-for each resource and the bytes that are written.
+bytes that a run reads are counted, too: wanted are at most those that it reads of an empty file, the first 4,096 (by which it sees that
+the file is no disk image), the first 128 and 256, the map, four for each resource and the bytes that are written.
 """
 import os
 import random
@@ -15,7 +15,7 @@ from checks.fork_questions import Difference
 from checks.forks import Choices, compare, run, try_fork
 from model.fork import FORMAT, NoFork, listing, read_fork
 
-FRONT = 128 + 256
+FRONT = 4096 + 128 + 256
 # what /proc/self/io says has more digits later
 DIGITS = 64
 BEHIND = 1 << 20
