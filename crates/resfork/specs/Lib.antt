@@ -1,3 +1,11 @@
 pub mod Faults
 pub mod Running
 pub mod Ends
+pub mod Outside
+pub mod Putting
+pub mod Copying
+pub mod Making
+pub mod Folders
+pub mod Packing
+pub mod Lines
+pub mod Does

@@ -17,8 +17,8 @@ use file_acts::acts::{Acts, write_out};
 use file_acts::host::Host;
 use file_acts::message::{BAD_WORDS, CANT_GO_ON, DONE, finish, tell_bad_words};
 use fork_disk::{Unknown, World};
-use fork_shows::find::find_all;
 use fork_shows::failed::Failed;
+use fork_shows::find::find_all;
 use fork_shows::outside::check_outputs;
 use fork_shows::page::write_page;
 use fork_shows::report::report_all;
@@ -90,7 +90,7 @@ fn do_asked<W: World>(host: &Host<'_>, asked: Asked<'_>, acts: &mut Acts) -> u8
         }
         Asked::Page(asked) => write_page(host, &asked, acts),
         Asked::Find(asked) => find_all(host, &asked, acts),
-        Asked::Change(work) => run_work(host, work, acts),
+        Asked::Change(work) => run_work::<W>(host, work, acts),
         Asked::Tell(text) => tell(host, text, acts),
     }
 }

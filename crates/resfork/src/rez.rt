@@ -6,7 +6,10 @@ ghost use Rattle.fork_rez.specs.Said.{made_table};
 ghost use Rattle.host_paths.specs.declared.host.Answer.{Answer};
 ghost use Rattle.mac_files.specs.Kinds.{is_alone, kind_of};
 ghost use Rattle.file_acts.specs.declared.acts.Act.TheVariants as act;
-ghost use Rattle.resfork.specs.Ends.{ChecksAt, ChecksFree, Delivers, IsFileLike, IsFree, IsRezzed, PacksLike, PutsRows, Rezzes, RezzesText, WritesAndSays, WritesNew, WritesTable, ended, leads_to_file, like_bytes, with_advice};
+ghost use Rattle.resfork.specs.Ends.{ended};
+ghost use Rattle.resfork.specs.Folders.{AddsFile, IsManifest, IsPacked, ReadsBelow, ReadsFiles, ReadsManifest, ReadsPacking};
+ghost use Rattle.resfork.specs.Making.{ChecksAt, ChecksFree, IsFileLike, IsFree, WritesAndSays, WritesNew, WritesTable, leads_to_file};
+ghost use Rattle.resfork.specs.Packing.{Delivers, IsRezzed, PacksLike, PutsRows, Rezzes, RezzesText, like_bytes, with_advice};
 ghost use Rattle.file_acts.specs.Acts.{WritesNothing};
 ghost use Rattle.image_acts.specs.Words.{ReadsWord};
 ghost use Rattle.file_acts.specs.Saved.{SavedAndSaid, ShowsSaved};
@@ -14,7 +17,7 @@ ghost use Rattle.fork_saves.specs.Saving.{EndsSaved};
 ghost use Rattle.fork_saves.specs.Changing.{IsForFile, IsForOther};
 ghost use Rattle.resfork.specs.Running.{IsForPlace, is_dry_place};
 
-use crate::unlisted::with_unlisted;
+use crate::unlisted::{path_in, with_unlisted};
 use crate::work::{copy_rows, file_at_fault};
 use file_acts::acts::{Acts, look_at, print};
 use file_acts::host::{Host, OUTPUT};
@@ -62,6 +65,7 @@ fn made_of(alloc: Global, text: &[u8]) -> Result<Made, Problem>
 
 /// Writes a fork of a text, or puts its resources into a file.
 pub fn rez_file<'a>(host: &Host<'_>, asked: Rezzing<'a>, acts: &mut Acts) -> Result<u8, Failed<'a>>
+    ensures does { Rezzes asked.entry (ended result) acts.old.events acts.new.events }
     ensures done { IfOk result (λ status. status ≡ DONE) }
     ensures dry { is_dry_place asked.entry.place ≡ true → WritesNothing acts.old.events acts.new.events }
     ensures saved { IsForPlace asked.entry.place → IfOk result (λ _. EndsSaved acts.new.events) }
@@ -78,6 +82,7 @@ fn rez_text<'a>(
     text: &[u8],
     acts: &mut Acts,
 ) -> Result<u8, Failed<'a>>
+    ensures does { RezzesText asked.entry.place text.now (ended result) acts.old.events acts.new.events }
     ensures done { IfOk result (λ status. status ≡ DONE) }
     ensures dry { is_dry_place asked.entry.place ≡ true → WritesNothing acts.old.events acts.new.events }
     ensures saved { IsForPlace asked.entry.place → IfOk result (λ _. EndsSaved acts.new.events) }
@@ -120,6 +125,7 @@ fn deliver<'a>(
     table: &Table<'_>,
     acts: &mut Acts,
 ) -> Result<u8, Failed<'a>>
+    ensures does { Delivers place.entry (like_bytes like.entry) table.now (ended result) acts.old.events acts.new.events }
     ensures done { IfOk result (λ status. status ≡ DONE) }
     ensures dry { is_dry_place place.entry ≡ true → WritesNothing acts.old.events acts.new.events }
     ensures saved { IsForPlace place.entry → IfOk result (λ _. EndsSaved acts.new.events) }
@@ -156,6 +162,7 @@ fn put_rows<'a>(
     rows: &[Row<'_>],
     acts: &mut Acts,
 ) -> Result<u8, Failed<'a>>
+    ensures does { PutsRows ends.entry.1 on_collision rows.now (ended result) acts.old.events acts.new.events }
     ensures done { IfOk result (λ status. status ≡ DONE) }
     ensures dry { ends.entry.1.is_dry ≡ true → WritesNothing acts.old.events acts.new.events }
     ensures saved { IsForFile ends.entry.1 → IfOk result (λ _. EndsSaved acts.new.events) }
@@ -402,11 +409,12 @@ fn add_file(
     most: usize,
     acts: &mut Acts,
 ) -> Result<usize, Problem>
-    ensures quiet { WritesNothing acts.old.events acts.new.events }
+    ensures adds { IfOk result (λ count. AddsFile folder.now file.now most count files.old files.new acts.old.events acts.new.events) }
+    ensures quiet { ReadsBelow folder.now acts.old.events acts.new.events }
     ensures seen { ShowsSaved acts.old.events acts.new.events }
 {
     let alloc = host.alloc();
-    let path = format!(in alloc; "{folder}/{file}")?;
+    let path = path_in(alloc, folder, file)?;
     let bytes = match read_front(host, path.as_str(), (most as u64).saturating_add(1), acts) {
         Ok(bytes) => bytes,
         Err(error) => return Err(unread(host.alloc(), path.as_str(), error)),
@@ -426,7 +434,8 @@ fn read_files(
     entries: &[Entry],
     acts: &mut Acts,
 ) -> Result<Files, Problem>
-    ensures quiet { WritesNothing acts.old.events acts.new.events }
+    ensures does { ReadsFiles folder.now result acts.old.events acts.new.events }
+    ensures quiet { ReadsBelow folder.now acts.old.events acts.new.events }
     ensures seen { ShowsSaved acts.old.events acts.new.events }
 {
     let mut files = Files::new(host.alloc());
@@ -448,17 +457,27 @@ fn read_files(
 
 /// What `resources.json` says of a folder.
 fn packing_of(host: &Host<'_>, folder: &str, acts: &mut Acts) -> Result<Manifest, Problem>
-    ensures quiet { WritesNothing acts.old.events acts.new.events }
+    ensures does { ReadsManifest folder.now result acts.old.events acts.new.events }
+    ensures quiet { ReadsBelow folder.now acts.old.events acts.new.events }
     ensures seen { ShowsSaved acts.old.events acts.new.events }
 {
-    let alloc = host.alloc();
-    let path = format!(in alloc; "{folder}/{MANIFEST}")?;
+    let path = path_in(host.alloc(), folder, MANIFEST)?;
     let text = read_other(host, path.as_str(), acts)?;
-    let Ok(text) = str::from_utf8(&text) else {
-        let path = FileName(path.as_str());
+    said_in(host.alloc(), path.as_str(), &text)
+}
+
+/// What these bytes of the file of this path say of a folder.
+fn said_in(alloc: Global, path: &str, bytes: &[u8]) -> Result<Manifest, Problem>
+    ensures { IsManifest bytes.now result }
+{
+    let Ok(text) = str::from_utf8(bytes) else {
+        let path = FileName(path);
         return Err(Problem::NoText(format!(in alloc; "{path}")?));
     };
-    manifest_of(alloc, text).map_err(Problem::Pack)
+    match manifest_of(alloc, text) {
+        Ok(packing) => Ok(packing),
+        Err(fault) => Err(Problem::Pack(fault)),
+    }
 }
 
 /// The files of resources in a folder, and what `resources.json` says of them. Files that it doesn't name are added, or
@@ -469,13 +488,32 @@ fn packing_in(
     adds: bool,
     acts: &mut Acts,
 ) -> Result<(Manifest, Files), Problem>
-    ensures quiet { WritesNothing acts.old.events acts.new.events }
+    ensures does { ReadsPacking folder.now adds result acts.old.events acts.new.events }
+    ensures quiet { ReadsBelow folder.now acts.old.events acts.new.events }
     ensures seen { ShowsSaved acts.old.events acts.new.events }
 {
     let packing = packing_of(host, folder, acts)?;
     let packing = with_unlisted(host, folder, packing, adds, acts)?;
     let files = read_files(host, folder, packing.entries.as_slice(), acts)?;
     Ok((packing, files))
+}
+
+/// The table of what was packed, with the bytes of these files.
+fn packed_table<'a>(
+    alloc: Global,
+    packing: &'a Manifest,
+    files: &'a Files,
+) -> Result<Table<'a>, Problem>
+    ensures { IsPacked packing.now files.now result }
+{
+    match packed(alloc, packing.entries.as_slice(), files) {
+        Ok(rows) => Ok(Table {
+            rows,
+            extra: packing.extra,
+            map_attributes: packing.map_attributes,
+        }),
+        Err(fault) => Err(Problem::Pack(fault)),
+    }
 }
 
 /// Writes a fork of the files in a folder and what `resources.json` says of them, in a file like this one; or puts its
@@ -486,6 +524,7 @@ pub fn pack_folder<'a>(
     like: Option<Like<'a, '_>>,
     acts: &mut Acts,
 ) -> Result<u8, Failed<'a>>
+    ensures does { PacksLike asked.entry (like_bytes like.entry) (ended result) acts.old.events acts.new.events }
     ensures done { IfOk result (λ status. status ≡ DONE) }
     ensures dry { is_dry_place asked.entry.place ≡ true → WritesNothing acts.old.events acts.new.events }
     ensures saved { IsForPlace asked.entry.place → IfOk result (λ _. EndsSaved acts.new.events) }
@@ -493,11 +532,6 @@ pub fn pack_folder<'a>(
 {
     let folder = asked.folder;
     let (packing, files) = of_file(folder, packing_in(host, folder, asked.adds, acts))?;
-    let rows = packed(host.alloc(), packing.entries.as_slice(), &files);
-    let table = Table {
-        rows: of_file(folder, rows.map_err(Problem::Pack))?,
-        extra: packing.extra,
-        map_attributes: packing.map_attributes,
-    };
+    let table = of_file(folder, packed_table(host.alloc(), &packing, &files))?;
     deliver(host, folder, asked.place, like, &table, acts)
 }

@@ -1,10 +1,12 @@
 //! Lines that take the place of the texts of a file.
 
-ghost use Rattle.std.specs.Prelude.{◌≡◌, IfOk, true};
+ghost use Rattle.std.specs.Prelude.{◌≡◌, Err, IfErr, IfOk, Ok, true};
 ghost use Rattle.file_acts.specs.Acts.{WritesNothing};
 ghost use Rattle.file_acts.specs.Saved.{ShowsSaved};
 ghost use Rattle.fork_saves.specs.Changing.{IsForFile, IsJustRead, IsOpenedFor};
 ghost use Rattle.fork_saves.specs.Saving.{EndsSaved};
+ghost use Rattle.resfork.specs.Ends.{ended};
+ghost use Rattle.resfork.specs.Lines.{AreChanged, AreChangedIn, PutsLines, PutsLinesIn, PutsTexts, ReplacesRows};
 
 use crate::work::can_copy;
 use file_acts::acts::Acts;
@@ -34,6 +36,8 @@ fn rows_put<'a>(
     lines: &[u8],
     bytes: &[u8],
 ) -> Result<Vec<Resource<Text>>, Failed<'a>>
+    ensures changed { IfOk result (λ changed. AreChangedIn lines.now bytes.now (Ok changed.items)) }
+    ensures none { IfErr result (λ failed. AreChangedIn lines.now bytes.now (Err failed.problem)) }
 {
     let file = asked.target.file;
     let found = of_file(file, fork_found(alloc, bytes))?;
@@ -45,6 +49,8 @@ fn rows_put<'a>(
 
 /// The rows of these that change where these lines take the place of their texts.
 fn put_lines(alloc: Global, rows: &[Row<'_>], lines: &[u8]) -> Result<Vec<Resource<Text>>, Problem>
+    ensures changed { IfOk result (λ changed. AreChanged lines.now rows.now (Ok changed.items)) }
+    ensures none { IfErr result (λ why. AreChanged lines.now rows.now (Err why)) }
 {
     let types = text_types(alloc)?;
     let Ok(lines) = str::from_utf8(lines) else {
@@ -65,6 +71,7 @@ fn put_rows(
     acts: &mut Acts,
 ) -> Result<u8, Problem>
     requires { IsOpenedFor target.now source }
+    ensures does { ReplacesRows target.now source changed.now result acts.old.events acts.new.events }
     ensures done { IfOk result (λ status. status ≡ DONE) }
     ensures dry { target.now.is_dry ≡ true → WritesNothing acts.old.events acts.new.events }
     ensures saved { IsForFile target.now → IsJustRead source acts.old.events → IfOk result (λ _. EndsSaved acts.new.events) }
@@ -87,6 +94,7 @@ fn put_in<'a>(
     acts: &mut Acts,
 ) -> Result<u8, Failed<'a>>
     requires { IsOpenedFor asked.target source }
+    ensures does { PutsLinesIn asked.entry.target lines.now source (ended result) acts.old.events acts.new.events }
     ensures done { IfOk result (λ status. status ≡ DONE) }
     ensures dry { asked.entry.target.is_dry ≡ true → WritesNothing acts.old.events acts.new.events }
     ensures saved { IsForFile asked.entry.target → IsJustRead source acts.old.events → IfOk result (λ _. EndsSaved acts.new.events) }
@@ -106,6 +114,7 @@ fn put_text<'a>(
     lines: &[u8],
     acts: &mut Acts,
 ) -> Result<u8, Failed<'a>>
+    ensures does { PutsLines asked.entry.target lines.now (ended result) acts.old.events acts.new.events }
     ensures done { IfOk result (λ status. status ≡ DONE) }
     ensures dry { asked.entry.target.is_dry ≡ true → WritesNothing acts.old.events acts.new.events }
     ensures saved { IsForFile asked.entry.target → IfOk result (λ _. EndsSaved acts.new.events) }
@@ -123,6 +132,7 @@ pub fn put_texts<'a>(
     asked: PuttingTexts<'a>,
     acts: &mut Acts,
 ) -> Result<u8, Failed<'a>>
+    ensures does { PutsTexts asked.entry (ended result) acts.old.events acts.new.events }
     ensures done { IfOk result (λ status. status ≡ DONE) }
     ensures dry { asked.entry.target.is_dry ≡ true → WritesNothing acts.old.events acts.new.events }
     ensures saved { IsForFile asked.entry.target → IfOk result (λ _. EndsSaved acts.new.events) }

@@ -1,7 +1,8 @@
 //! Files in a folder that its `resources.json` doesn't name.
 
-ghost use Rattle.file_acts.specs.Acts.{WritesNothing};
+ghost use Rattle.std.specs.Prelude.{◌≡◌, IfOk, false, string_bytes, true};
 ghost use Rattle.file_acts.specs.Saved.{ShowsSaved};
+ghost use Rattle.resfork.specs.Folders.{AddsOthers, IsWithOthers, ReadsBelow, path_in};
 
 use crate::rez::MANIFEST;
 use file_acts::acts::{Acts, look_at};
@@ -11,11 +12,18 @@ use file_acts::message::Problem;
 use fork_folder::manifest::Packing;
 use fork_folder::rows::{Entry, PackFault};
 use fork_folder::with_added;
-use std::alloc::AllocError;
+use std::alloc::{AllocError, Global};
 use std::collections::BTreeSet;
 
 /// Paths of files below a folder.
 type Paths = BTreeSet<String>;
+
+/// The path of what has this name in a folder.
+pub fn path_in(alloc: Global, folder: &str, name: &str) -> Result<String, AllocError>
+    ensures { IfOk result (λ path. string_bytes path ≡ path_in folder.now name.now) }
+{
+    format!(in alloc; "{folder}/{name}")
+}
 
 /// The paths that the manifest names.
 fn listed_paths(host: &Host<'_>, entries: &[Entry]) -> Result<Paths, AllocError> {
@@ -36,11 +44,11 @@ fn add_inner(
     others: &mut Paths,
     acts: &mut Acts,
 ) -> Result<(), Problem>
-    ensures quiet { WritesNothing acts.old.events acts.new.events }
+    ensures quiet { ReadsBelow folder.now acts.old.events acts.new.events }
     ensures seen { ShowsSaved acts.old.events acts.new.events }
 {
     let alloc = host.alloc();
-    let path = format!(in alloc; "{folder}/{kind}")?;
+    let path = path_in(alloc, folder, kind)?;
     for name in names_in(host, path.as_str(), acts)? {
         let path = format!(in alloc; "{kind}/{name}")?;
         if !listed.contains(path.as_str()) {
@@ -57,10 +65,10 @@ fn is_folder_in(
     name: &str,
     acts: &mut Acts,
 ) -> Result<bool, AllocError>
-    ensures quiet { WritesNothing acts.old.events acts.new.events }
+    ensures quiet { ReadsBelow folder.now acts.old.events acts.new.events }
     ensures seen { ShowsSaved acts.old.events acts.new.events }
 {
-    let path = format!(in host.alloc(); "{folder}/{name}")?;
+    let path = path_in(host.alloc(), folder, name)?;
     match look_at(host, path.as_str(), acts) {
         Ok(Some(found)) => Ok(found.is_folder()),
         _ => Ok(false),
@@ -74,7 +82,7 @@ fn unlisted(
     entries: &[Entry],
     acts: &mut Acts,
 ) -> Result<Paths, Problem>
-    ensures quiet { WritesNothing acts.old.events acts.new.events }
+    ensures quiet { ReadsBelow folder.now acts.old.events acts.new.events }
     ensures seen { ShowsSaved acts.old.events acts.new.events }
 {
     let listed = listed_paths(host, entries)?;
@@ -89,6 +97,42 @@ fn unlisted(
     Ok(others)
 }
 
+/// What is packed, with the files of these paths, too.
+fn with_others(alloc: Global, packing: Packing, others: &Paths) -> Result<Packing, Problem>
+    ensures { IfOk result (IsWithOthers true packing.entry) }
+{
+    let mut paths = Vec::new(alloc);
+    for path in others {
+        paths.push(path.as_str()).map_err(AllocError::from)?;
+    }
+    let Packing {
+        entries,
+        extra,
+        map_attributes,
+    } = packing;
+    match with_added(alloc, entries, &paths) {
+        Ok(entries) => Ok(Packing {
+            entries,
+            extra,
+            map_attributes,
+        }),
+        Err(fault) => Err(Problem::Pack(fault)),
+    }
+}
+
+/// What is packed, where there are no others; else the first of these is refused.
+fn without_others(alloc: Global, packing: Packing, others: &Paths) -> Result<Packing, Problem>
+    ensures { IfOk result (IsWithOthers false packing.entry) }
+{
+    match others.first() {
+        Some(path) => {
+            let path = String::from_str(alloc, path.as_str())?;
+            Err(Problem::Pack(PackFault::Unlisted(path)))
+        }
+        None => Ok(packing),
+    }
+}
+
 /// What is packed of a folder, with the files that its manifest doesn't name. Where these aren't to be added, the first
 /// of them is refused.
 pub fn with_unlisted(
@@ -98,27 +142,14 @@ pub fn with_unlisted(
     adds: bool,
     acts: &mut Acts,
 ) -> Result<Packing, Problem>
-    ensures quiet { WritesNothing acts.old.events acts.new.events }
+    ensures does { AddsOthers folder.now adds packing.entry result acts.old.events acts.new.events }
+    ensures quiet { ReadsBelow folder.now acts.old.events acts.new.events }
     ensures seen { ShowsSaved acts.old.events acts.new.events }
 {
-    let alloc = host.alloc();
     let others = unlisted(host, folder, packing.entries.as_slice(), acts)?;
-    if !adds && let Some(path) = others.first() {
-        let path = String::from_str(alloc, path.as_str())?;
-        return Err(Problem::Pack(PackFault::Unlisted(path)));
+    if adds {
+        with_others(host.alloc(), packing, &others)
+    } else {
+        without_others(host.alloc(), packing, &others)
     }
-    let mut paths = Vec::new(alloc);
-    for path in &others {
-        paths.push(path.as_str()).map_err(AllocError::from)?;
-    }
-    let Packing {
-        entries,
-        extra,
-        map_attributes,
-    } = packing;
-    Ok(Packing {
-        entries: with_added(alloc, entries, &paths).map_err(Problem::Pack)?,
-        extra,
-        map_attributes,
-    })
 }

@@ -1,14 +1,19 @@
 //! What the commands do that change files.
 
 ghost use Rattle.std.specs.List.{find};
-ghost use Rattle.std.specs.Prelude.{◌≡◌, ◌≤◌, IfOk, option_map, true};
+ghost use Rattle.std.specs.Prelude.{◌≡◌, ◌≤◌, IfOk, bytes_eq, codes, option_map, true};
 ghost use Rattle.fork_change.specs.Copies.{is_unmet};
 ghost use Rattle.file_acts.specs.Acts.{WritesNothing};
 ghost use Rattle.resfork.specs.Faults.{file_at_fault};
 ghost use Rattle.file_acts.specs.Saved.{ShowsSaved};
 ghost use Rattle.fork_saves.specs.Saving.{EndsSaved};
 ghost use Rattle.fork_saves.specs.Changing.{IsForFile, IsForNew};
-ghost use Rattle.resfork.specs.Ends.{CanCopy, ChangesOutside, CopiesChosen, CopiesRows, ended, unmet_why};
+ghost use Rattle.resfork.specs.Copying.{CanCopy, Copies, CopiesChosen, CopiesIn, CopiesRows, unmet_why};
+ghost use Rattle.resfork.specs.Does.{ConvertsFile, Does, EndsWork};
+ghost use Rattle.resfork.specs.Ends.{ended};
+ghost use Rattle.resfork.specs.Outside.{ChangesOutside};
+ghost use Rattle.resfork.specs.Packing.{Packs};
+ghost use Rattle.resfork.specs.Putting.{Puts, PutsBytes, PutsIf, PutsInto, Removes, Sets};
 ghost use Rattle.resfork.specs.Running.{ChangesFiles, IsForPlace, ReadsWork, is_dry_place, writes_nothing};
 
 use crate::rez::{Like, pack_folder, rez_file};
@@ -20,7 +25,7 @@ use file_acts::input;
 use file_acts::message::{CANT_GO_ON, DONE, NOT_FOUND, Problem, finish};
 use fork_bytes::table::Row;
 use fork_change::{Choice, Refusal};
-use fork_disk::Unknown;
+use fork_disk::{Unknown, World};
 use fork_edit::edit::{Edit, second_of, unmet};
 use fork_edit::file::NotWritten;
 use fork_saves::change::{change_file, create_file};
@@ -35,20 +40,26 @@ use image_acts::{check_outside, read};
 use std::alloc::Global;
 
 /// Does what is asked for. The result is the exit status.
-pub fn run_work(host: &Host<'_>, work: Work<'_>, acts: &mut Acts) -> u8
+pub fn run_work<W: World>(host: &Host<'_>, work: Work<'_>, acts: &mut Acts) -> u8
+    ensures does { EndsWork W.World host.now.limit work.entry result acts.old.events acts.new.events }
     ensures few { result ≤ CANT_GO_ON }
     ensures quiet { writes_nothing work.entry ≡ true → ReadsWork work.entry acts.old.events acts.new.events }
     ensures saved { ChangesFiles work.entry → result ≡ DONE → EndsSaved acts.new.events }
     ensures seen { ChangesFiles work.entry → ShowsSaved acts.old.events acts.new.events }
 {
-    match try_work(host, work, acts) {
+    match try_work::<W>(host, work, acts) {
         Ok(status) => status,
         Err(Failed { file, problem }) => finish(host, file, Err(problem)),
     }
 }
 
 /// Does what is asked for. The result is the exit status, or which file is in the way.
-fn try_work<'a>(host: &Host<'_>, work: Work<'a>, acts: &mut Acts) -> Result<u8, Failed<'a>>
+fn try_work<'a, W: World>(
+    host: &Host<'_>,
+    work: Work<'a>,
+    acts: &mut Acts,
+) -> Result<u8, Failed<'a>>
+    ensures does { Does W.World host.now.limit work.entry (ended result) acts.old.events acts.new.events }
     ensures few { IfOk result (λ status. status ≤ NOT_FOUND) }
     ensures quiet { writes_nothing work.entry ≡ true → ReadsWork work.entry acts.old.events acts.new.events }
     ensures saved { ChangesFiles work.entry → IfOk result (λ _. EndsSaved acts.new.events) }
@@ -58,15 +69,15 @@ fn try_work<'a>(host: &Host<'_>, work: Work<'a>, acts: &mut Acts) -> Result<u8, 
         Work::Put(asked) => put(host, asked, acts),
         Work::Remove(asked) => remove(host, &asked, acts),
         Work::Set(asked) => set(host, asked, acts),
-        Work::Copy(asked) => copy_from(host, &asked, acts),
+        Work::Copy(asked) => copy_from::<W>(host, &asked, acts),
         Work::Compare(asked) => compare(host, asked, acts),
         Work::Derez(asked) => of_file(
             asked.file,
             derez_file(host, asked.file, asked.kinds.as_slice(), acts),
         ),
         Work::Rez(asked) => rez_file(host, asked, acts),
-        Work::Pack(asked) => pack(host, asked, acts),
-        Work::Convert(asked) => of_file(asked.target.file, convert_file(host, &asked, acts)),
+        Work::Pack(asked) => pack::<W>(host, asked, acts),
+        Work::Convert(asked) => of_file(asked.target.file, convert_file::<W>(host, &asked, acts)),
         Work::Texts(file) => of_file(file, list_texts(host, file, acts)),
         Work::PutTexts(asked) => put_texts(host, asked, acts),
     }
@@ -74,6 +85,7 @@ fn try_work<'a>(host: &Host<'_>, work: Work<'a>, acts: &mut Acts) -> Result<u8, 
 
 /// Puts bytes in the place of a resource's, or adds it.
 fn put<'a>(host: &Host<'_>, asked: Putting<'a>, acts: &mut Acts) -> Result<u8, Failed<'a>>
+    ensures does { Puts asked.entry (ended result) acts.old.events acts.new.events }
     ensures done { IfOk result (λ status. status ≡ DONE) }
     ensures dry { asked.entry.target.is_dry ≡ true → WritesNothing acts.old.events acts.new.events }
     ensures saved { IsForFile asked.entry.target → IfOk result (λ _. EndsSaved acts.new.events) }
@@ -91,6 +103,7 @@ fn put_bytes(
     bytes: &[u8],
     acts: &mut Acts,
 ) -> Result<u8, Problem>
+    ensures does { PutsBytes asked.entry bytes.now result acts.old.events acts.new.events }
     ensures done { IfOk result (λ status. status ≡ DONE) }
     ensures dry { asked.entry.target.is_dry ≡ true → WritesNothing acts.old.events acts.new.events }
     ensures saved { IsForFile asked.entry.target → IfOk result (λ _. EndsSaved acts.new.events) }
@@ -106,6 +119,7 @@ fn put_bytes(
 
 /// Removes resources.
 fn remove<'a>(host: &Host<'_>, asked: &Removing<'a>, acts: &mut Acts) -> Result<u8, Failed<'a>>
+    ensures does { Removes asked.now (ended result) acts.old.events acts.new.events }
     ensures done { IfOk result (λ status. status ≡ DONE) }
     ensures dry { asked.now.target.is_dry ≡ true → WritesNothing acts.old.events acts.new.events }
     ensures saved { IsForFile asked.now.target → IfOk result (λ _. EndsSaved acts.new.events) }
@@ -120,6 +134,7 @@ fn remove<'a>(host: &Host<'_>, asked: &Removing<'a>, acts: &mut Acts) -> Result<
 
 /// Changes all of a resource but its bytes.
 fn set<'a>(host: &Host<'_>, asked: Setting<'a>, acts: &mut Acts) -> Result<u8, Failed<'a>>
+    ensures does { Sets asked.entry (ended result) acts.old.events acts.new.events }
     ensures done { IfOk result (λ status. status ≡ DONE) }
     ensures dry { asked.entry.target.is_dry ≡ true → WritesNothing acts.old.events acts.new.events }
     ensures saved { IsForFile asked.entry.target → IfOk result (λ _. EndsSaved acts.new.events) }
@@ -134,14 +149,19 @@ fn set<'a>(host: &Host<'_>, asked: Setting<'a>, acts: &mut Acts) -> Result<u8, F
 }
 
 /// Copies resources of a file to another.
-fn copy_from<'a>(host: &Host<'_>, asked: &Copying<'a>, acts: &mut Acts) -> Result<u8, Failed<'a>>
+fn copy_from<'a, W: World>(
+    host: &Host<'_>,
+    asked: &Copying<'a>,
+    acts: &mut Acts,
+) -> Result<u8, Failed<'a>>
+    ensures does { Copies W.World host.now.limit asked.now (ended result) acts.old.events acts.new.events }
     ensures done { IfOk result (λ status. status ≡ DONE) }
     ensures dry { asked.now.target.is_dry ≡ true → WritesNothing acts.old.events acts.new.events }
     ensures saved { IsForFile asked.now.target → IfOk result (λ _. EndsSaved acts.new.events) }
     ensures seen { IsForFile asked.now.target → ShowsSaved acts.old.events acts.new.events }
 {
     let from = asked.from;
-    let bytes = of_file(from, read::<Unknown>(host, from, acts))?;
+    let bytes = of_file(from, read::<W>(host, from, acts))?;
     copy_in(host, asked, &bytes, acts)
 }
 
@@ -152,6 +172,7 @@ fn copy_in<'a>(
     bytes: &[u8],
     acts: &mut Acts,
 ) -> Result<u8, Failed<'a>>
+    ensures does { CopiesIn asked.now bytes.now (ended result) acts.old.events acts.new.events }
     ensures done { IfOk result (λ status. status ≡ DONE) }
     ensures dry { asked.now.target.is_dry ≡ true → WritesNothing acts.old.events acts.new.events }
     ensures saved { IsForFile asked.now.target → IfOk result (λ _. EndsSaved acts.new.events) }
@@ -229,18 +250,28 @@ pub fn can_copy(alloc: Global, chosen: &[Choice], rows: &[Row<'_>]) -> Result<()
 }
 
 /// Writes a file in another container.
-fn convert_file(host: &Host<'_>, asked: &Conversion<'_>, acts: &mut Acts) -> Result<u8, Problem>
+fn convert_file<W: World>(
+    host: &Host<'_>,
+    asked: &Conversion<'_>,
+    acts: &mut Acts,
+) -> Result<u8, Problem>
+    ensures does { ConvertsFile W.World host.now.limit asked.now result acts.old.events acts.new.events }
     ensures done { IfOk result (λ status. status ≡ DONE) }
     ensures dry { asked.now.target.is_dry ≡ true → WritesNothing acts.old.events acts.new.events }
     ensures saved { IsForNew asked.now → IfOk result (λ _. EndsSaved acts.new.events) }
     ensures seen { IsForNew asked.now → ShowsSaved acts.old.events acts.new.events }
 {
-    let bytes = read::<Unknown>(host, asked.target.file, acts)?;
+    let bytes = read::<W>(host, asked.target.file, acts)?;
     convert(host, asked, &bytes, acts)
 }
 
 /// Writes a fork of the files in a folder, alone or in a file like another one; or puts its resources into a file.
-fn pack<'a>(host: &Host<'_>, asked: Packing<'a>, acts: &mut Acts) -> Result<u8, Failed<'a>>
+fn pack<'a, W: World>(
+    host: &Host<'_>,
+    asked: Packing<'a>,
+    acts: &mut Acts,
+) -> Result<u8, Failed<'a>>
+    ensures does { Packs W.World host.now.limit asked.entry (ended result) acts.old.events acts.new.events }
     ensures done { IfOk result (λ status. status ≡ DONE) }
     ensures dry { is_dry_place asked.entry.place ≡ true → WritesNothing acts.old.events acts.new.events }
     ensures saved { IsForPlace asked.entry.place → IfOk result (λ _. EndsSaved acts.new.events) }
@@ -249,7 +280,7 @@ fn pack<'a>(host: &Host<'_>, asked: Packing<'a>, acts: &mut Acts) -> Result<u8, 
     let Some(name) = asked.like else {
         return pack_folder(host, asked, None, acts);
     };
-    let bytes = of_file(name, read::<Unknown>(host, name, acts))?;
+    let bytes = of_file(name, read::<W>(host, name, acts))?;
     let like = Like {
         name,
         bytes: &bytes,
@@ -294,6 +325,7 @@ fn put_into(
     edit: Edit<'_>,
     acts: &mut Acts,
 ) -> Result<u8, Problem>
+    ensures does { PutsInto target.now creates edit.entry result acts.old.events acts.new.events }
     ensures done { IfOk result (λ status. status ≡ DONE) }
     ensures dry { target.now.is_dry ≡ true → WritesNothing acts.old.events acts.new.events }
     ensures saved { IsForFile target.now → IfOk result (λ _. EndsSaved acts.new.events) }
@@ -311,6 +343,7 @@ fn put_outside(
     edit: Edit<'_>,
     acts: &mut Acts,
 ) -> Result<u8, Problem>
+    ensures does { PutsIf (bytes_eq target.now.file.now (codes "-")) creates target.now edit.entry result acts.old.events acts.new.events }
     ensures done { IfOk result (λ status. status ≡ DONE) }
     ensures dry { target.now.is_dry ≡ true → WritesNothing acts.old.events acts.new.events }
     ensures saved { IsForFile target.now → IfOk result (λ _. EndsSaved acts.new.events) }
