@@ -66,7 +66,7 @@ pub record AddsFile (folder name : List ℕ) (most many : ℕ) (before after : B
   pub front : ℕ
   pub counted : many ≡ length bytes
   pub whole : most < 18446744073709551615 → most < front
-  pub files : (path : List ℕ) → folder_of after path ≡ (if bytes_eq path name then Some bytes else folder_of before path)
+  pub files : (path : List ℕ) → folder_of after path ≡ (if bytes_eq name path then Some bytes else folder_of before path)
   pub read : new ≡ act.ReadFront (path_in folder name) front (Some bytes) ∷ old
 
 -- these files were read in a folder, each as a whole

@@ -1,6 +1,6 @@
 use Rattle.std.proofs.Common.{Bool, Ok, subst, sym, refl}
 use Rattle.fork_saves.proofs.Steps.{then_done, then_not}
-use Rattle.resfork.specs.Ends.{ChecksAt}
+use Rattle.resfork.specs.Making.{ChecksAt}
 use Rattle.resfork.proofs.rez.check_at.Goals as goal
 
 pub returns-then-not-is_file-clause-does : goal.returns-then-not-is_file-clause-does

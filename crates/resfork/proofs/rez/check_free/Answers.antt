@@ -5,7 +5,7 @@ use Rattle.host_paths.specs.declared.host.Answer.{Answer}
 use Rattle.file_acts.specs.Acts.{Log}
 use Rattle.file_acts.specs.declared.acts.Act.TheVariants as act
 use Rattle.file_acts.specs.declared.message.Problem.{Problem}
-use Rattle.resfork.specs.Ends.{ChecksAt, ChecksFree, leads_to_file}
+use Rattle.resfork.specs.Making.{ChecksAt, ChecksFree, leads_to_file}
 use Rattle.resfork.proofs.rez.check_free.Goals as goal
 
 -- it was asked what a path leads to, and then it was looked

@@ -4,7 +4,7 @@ use Rattle.std.specs.Global.{Global}
 use Rattle.std.proofs.lemmas.Result.{err_from_is_err_and}
 use Rattle.fork_bytes.specs.declared.table.Table.{Table}
 use Rattle.file_acts.specs.declared.message.Problem.{Problem}
-use Rattle.resfork.specs.Ends.{IsFileLike}
+use Rattle.resfork.specs.Making.{IsFileLike}
 use Rattle.resfork.proofs.rez.file_like.Goals as goal
 
 -- a problem is handed on

@@ -1,6 +1,6 @@
 use Rattle.std.proofs.Common.{None, rules, inl, inr, refl}
 use Rattle.std.specs.Prelude.{string_bytes}
-use Rattle.resfork.specs.Ends.{WritesAndSays}
+use Rattle.resfork.specs.Making.{WritesAndSays}
 use Rattle.fork_saves.specs.Converting.{SaysSome}
 use Rattle.fork_saves.proofs.Steps.{then_done, then_not}
 use Rattle.resfork.proofs.rez.write_and_tell.Goals as goal

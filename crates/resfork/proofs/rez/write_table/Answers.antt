@@ -3,7 +3,7 @@ use Rattle.std.proofs.lemmas.Result.{IfOk-weaker}
 use Rattle.file_acts.specs.Saved.{SavedAndSaid}
 use Rattle.fork_saves.specs.Saving.{EndsSaved}
 use Rattle.fork_saves.proofs.Steps.{then_done, then_not}
-use Rattle.resfork.specs.Ends.{WritesTable}
+use Rattle.resfork.specs.Making.{WritesTable}
 use Rattle.resfork.proofs.rez.write_table.Goals as goal
 
 pub returns-clause-does : goal.returns-clause-does

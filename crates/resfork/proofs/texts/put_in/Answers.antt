@@ -1,6 +1,18 @@
+use Rattle.std.proofs.Common.{Err, refl}
 use Rattle.fork_saves.specs.Saving.{EndsSaved}
-use Rattle.resfork.proofs.Ended.{filed}
+use Rattle.fork_saves.proofs.Steps.{then_done}
+use Rattle.resfork.specs.Lines.{PutsLinesIn}
+use Rattle.resfork.proofs.Ended.{ended_is, filed, filed_not}
 use Rattle.resfork.proofs.texts.put_in.Goals as goal
+
+pub returns-clause-does : goal.returns-clause-does
+unfolding PutsLinesIn
+returns-clause-does c = then_done _ _ c.in_ok-changed.changed.items c.args.acts.now.events _ _ _ ((rw c.bytes.ensures at c.in_ok-changed.ensures.changed, refl))
+    (rw (ended_is c.put_rows.result c.of_file.result c.of_file.ensures.value c.of_file.ensures.problem) at (rw c.deref.ensures.value at c.put_rows.ensures.does))
+
+pub returns-in_err-changed-clause-does : goal.returns-in_err-changed-clause-does
+unfolding PutsLinesIn
+returns-in_err-changed-clause-does c = filed_not _ _ c.from_residual.result c.in_err-changed.field-0.0 (Err c.in_err-changed.field-0.0.problem) _ _ c.from_residual.ensures.1 refl (rw c.bytes.ensures at c.in_err-changed.ensures.none, refl)
 
 pub returns-clause-saved : goal.returns-clause-saved
 returns-clause-saved c = λ for read. let new = c.put_rows.new.acts.events in

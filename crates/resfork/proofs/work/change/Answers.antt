@@ -1,6 +1,6 @@
 use Rattle.fork_saves.proofs.Steps.{then_done, then_not}
 use Rattle.fork_shows.proofs.Quiet.{writes_nothing}
-use Rattle.resfork.specs.Ends.{ChangesOutside}
+use Rattle.resfork.specs.Outside.{ChangesOutside}
 use Rattle.resfork.proofs.Ended.{ends_as, changed_saved}
 use Rattle.resfork.proofs.work.change.Goals as goal
 

@@ -1,4 +1,4 @@
-use Rattle.resfork.specs.Ends.{CopiesChosen}
+use Rattle.resfork.specs.Copying.{CopiesChosen}
 use Rattle.resfork.proofs.work.copy_chosen.Goals as goal
 
 pub returns-clause-does : goal.returns-clause-does

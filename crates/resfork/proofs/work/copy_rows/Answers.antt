@@ -1,7 +1,7 @@
 use Rattle.std.proofs.Common.{refl}
 use Rattle.fork_saves.specs.Saving.{EndsSaved}
 use Rattle.fork_saves.proofs.Steps.{then_done}
-use Rattle.resfork.specs.Ends.{CopiesRows}
+use Rattle.resfork.specs.Copying.{CopiesRows}
 use Rattle.resfork.proofs.Ended.{ended_is, filed, filed_not}
 use Rattle.resfork.proofs.work.copy_rows.Goals as goal
 

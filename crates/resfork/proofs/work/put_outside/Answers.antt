@@ -1,6 +1,11 @@
+use Rattle.resfork.specs.Putting.{PutsAt, PutsIf}
 use Rattle.std.proofs.Common.{[], rules}
 use Rattle.resfork.proofs.Ended.{changed_saved, ends_as, made_saved}
 use Rattle.resfork.proofs.work.put_outside.Goals as goal
+
+pub returns-then-eq-clause-does : goal.returns-then-eq-clause-does
+unfolding PutsIf
+returns-then-eq-clause-does c = ?
 
 pub returns-then-eq-clause-saved : goal.returns-then-eq-clause-saved
 returns-then-eq-clause-saved c = λ for. let new = c.change_file.new.acts.events in

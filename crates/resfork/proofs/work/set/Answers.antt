@@ -1,6 +1,9 @@
 use Rattle.fork_saves.specs.Saving.{EndsSaved}
-use Rattle.resfork.proofs.Ended.{filed}
+use Rattle.resfork.proofs.Ended.{ended_is, filed}
 use Rattle.resfork.proofs.work.set.Goals as goal
+
+pub returns-clause-does : goal.returns-clause-does
+returns-clause-does c = rw (ended_is c.change.result c.of_file.result c.of_file.ensures.value c.of_file.ensures.problem) at c.change.ensures.does
 
 pub returns-clause-saved : goal.returns-clause-saved
 returns-clause-saved c = λ for. let new = c.change.new.acts.events in
