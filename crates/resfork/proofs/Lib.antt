@@ -1,2 +1,3 @@
 pub mod Ended
 mod Reading
+mod Below

@@ -1,15 +1,18 @@
 -- What each command does that changes files, act by act, and how it ends.
-use Rattle.std.specs.Prelude.{◌≡◌, ℕ, Result}
+use Rattle.std.specs.Prelude.{◌≡◌, ◌⊎◌, ℕ, Result, ⊤}
 use Rattle.fork_disk.specs.declared.world.World.{Ghosts}
+use Rattle.fork_words.specs.declared.asked.Asked.{Asked}
+use Rattle.fork_words.specs.declared.asked.Asked.TheVariants as asked
 use Rattle.fork_words.specs.declared.work.Conversion.{Conversion}
 use Rattle.fork_words.specs.declared.work.Work.{Work}
 use Rattle.fork_words.specs.declared.work.Work.TheVariants as work
-use Rattle.file_acts.specs.Acts.{Log, Then}
-use Rattle.file_acts.specs.Statuses.{status_after}
+use Rattle.file_acts.specs.Acts.{Log, Then, WritesNothing}
+use Rattle.file_acts.specs.Statuses.{status_after, status_of}
 use Rattle.file_acts.specs.declared.message.Problem.{Problem}
 use Rattle.image_acts.specs.Shown.{ReadsNamed}
 use Rattle.image_acts.specs.Words.{ReadsBothWords, ReadsWord}
 use Rattle.fork_saves.specs.Converting.{Converts}
+use Rattle.fork_shows.specs.Outputs.{NamesNone}
 use Rattle.resfork.specs.Copying.{Copies}
 use Rattle.resfork.specs.Lines.{PutsTexts}
 use Rattle.resfork.specs.Packing.{Packs, Rezzes}
@@ -36,3 +39,13 @@ Does world limit (work.PutTexts asked) result = PutsTexts asked result
 -- and the status with which it ends
 abbrev pub EndsWork : {W : Type 0} → Ghosts W → ℕ → Work → ℕ → Log → Log → Type 0
 EndsWork world limit what status old new = (end : Result ℕ Problem) × (status ≡ status_after end) × Does world limit what end old new
+
+-- the same of whatever is asked for
+abbrev pub DoesAsked : {W : Type 0} → Ghosts W → ℕ → Asked → ℕ → Log → Log → Type 0
+DoesAsked world limit (asked.Change what) status old new = EndsWork world limit what status old new
+DoesAsked world limit other status old new = ⊤
+
+-- It was looked first whether what is named to be written is in a disk image, and then it was done; or for such a name it was refused.
+abbrev pub RunsAsked : {W : Type 0} → Ghosts W → ℕ → Asked → ℕ → Log → Log → Type 0
+RunsAsked world limit it status old new = (mid : Log) × (NamesNone it → mid ≡ old) × WritesNothing old mid
+    × (DoesAsked world limit it status mid new ⊎ ((why : Problem) × (status ≡ status_of why) × (new ≡ mid)))

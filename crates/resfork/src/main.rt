@@ -4,6 +4,7 @@
 ghost use Rattle.file_acts.specs.Acts.{ReadsNothing};
 ghost use Rattle.file_acts.specs.Saved.{ShowsSaved};
 ghost use Rattle.fork_saves.specs.Saving.{EndsSaved};
+ghost use Rattle.resfork.specs.Does.{DoesAsked, RunsAsked};
 ghost use Rattle.resfork.specs.Running.{ChangesAsked, ReadsAsked, only_reads};
 ghost use Rattle.std.specs.Prelude.{◌≡◌, ◌≤◌, true};
 
@@ -60,6 +61,7 @@ fn run(rt: &HostRuntime) -> u8
 
 /// Does what is asked for, unless something would be written in a disk image. The result is the exit status.
 fn run_asked<W: World>(host: &Host<'_>, asked: Asked<'_>, acts: &mut Acts) -> u8
+    ensures does { RunsAsked W.World host.now.limit asked.entry result acts.old.events acts.new.events }
     ensures few { result ≤ CANT_GO_ON }
     ensures quiet { only_reads asked.entry ≡ true → ReadsAsked asked.entry acts.old.events acts.new.events }
     // A command that changes files ends with status 0 only after the last one was saved, or had nothing to change; and
@@ -75,6 +77,7 @@ fn run_asked<W: World>(host: &Host<'_>, asked: Asked<'_>, acts: &mut Acts) -> u8
 
 /// The same where nothing is to be written in a disk image.
 fn do_asked<W: World>(host: &Host<'_>, asked: Asked<'_>, acts: &mut Acts) -> u8
+    ensures does { DoesAsked W.World host.now.limit asked.entry result acts.old.events acts.new.events }
     ensures few { result ≤ CANT_GO_ON }
     ensures quiet { only_reads asked.entry ≡ true → ReadsAsked asked.entry acts.old.events acts.new.events }
     ensures saved { ChangesAsked asked.entry → result ≡ DONE → EndsSaved acts.new.events }
