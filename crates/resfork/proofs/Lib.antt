@@ -1,3 +1,4 @@
 pub mod Ended
+pub mod Below
+pub mod FolderFiles
 mod Reading
-mod Below
