@@ -34,7 +34,7 @@ read_at : (b : Bool) (folder name path bytes : List ℕ) (front : ℕ) (before a
     → WasRead folder path before old → WasRead folder path after new
 read_at true folder name path bytes front before after old new same is fits read was =
     subst (λ (found : Option (List ℕ)). WasRead folder path found new) (sym is)
-      (front, fits, subst (λ (at : List ℕ). Contains new (act.ReadFront (path_in folder at) front (Some bytes))) ((bytes_eq-Decides name path).0 same) (newest _ old new read))
+    (front, fits, subst (λ (at : List ℕ). Contains new (act.ReadFront (path_in folder at) front (Some bytes))) ((bytes_eq-Decides name path).0 same) (newest _ old new read))
 read_at false folder name path bytes front before after old new same is fits read was =
     subst (λ (found : Option (List ℕ)). WasRead folder path found new) (sym is) (still_read folder path before _ old new read was)
 

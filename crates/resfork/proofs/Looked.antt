@@ -24,7 +24,7 @@ pub asked_first : (is : Bool) (creates : Bool) (target : Target) (edit : Edit) (
 unfolding PutsIf
 asked_first is creates target edit found result old mid new no asked done =
     subst (λ (b : Bool). PutsIf b creates target edit result old new) (sym no)
-      (answer_of found, subst (λ (log : Log). PutsAt (answer_of found) creates target edit result log new) asked done)
+    (answer_of found, subst (λ (log : Log). PutsAt (answer_of found) creates target edit result log new) asked done)
 
 -- a file is made where nothing is, and it may be
 pub makes_it : (creates : Bool) (target : Target) (edit : Edit) (found : Result (Option Found) Error) (result : Result ℕ Problem) (mid new : Log)
@@ -32,7 +32,7 @@ pub makes_it : (creates : Bool) (target : Target) (edit : Edit) (found : Result 
 unfolding PutsAt
 makes_it creates target edit found result mid new is may done =
     subst (λ (it : Result (Option Found) Error). PutsAt (answer_of it) creates target edit result mid new) (sym is)
-      (subst (λ (b : Bool). PutsAt (answer_of (Ok None)) b target edit result mid new) (sym may) done)
+    (subst (λ (b : Bool). PutsAt (answer_of (Ok None)) b target edit result mid new) (sym may) done)
 
 -- none is made where it may not be
 pub makes_none : (creates : Bool) (target : Target) (edit : Edit) (found : Result (Option Found) Error) (mid : Log)
@@ -40,7 +40,7 @@ pub makes_none : (creates : Bool) (target : Target) (edit : Edit) (found : Resul
 unfolding PutsAt
 makes_none creates target edit found mid is may =
     subst (λ (it : Result (Option Found) Error). PutsAt (answer_of it) creates target edit (Err problem.NoFile) mid mid) (sym is)
-      (subst (λ (b : Bool). PutsAt (answer_of (Ok None)) b target edit (Err problem.NoFile) mid mid) (sym may) (refl, refl))
+    (subst (λ (b : Bool). PutsAt (answer_of (Ok None)) b target edit (Err problem.NoFile) mid mid) (sym may) (refl, refl))
 
 -- the file that is there is changed
 pub changes_it : (creates : Bool) (target : Target) (edit : Edit) (found : Result (Option Found) Error) (it : Found) (result : Result ℕ Problem) (mid new : Log)

@@ -1,13 +1,13 @@
 //! Resources as a text, and the fork of a text; and the fork of a folder to which resources were unpacked.
 
-ghost use Rattle.std.specs.Prelude.{◌≡◌, ◌||◌, ◌∷◌, ℕ, Err, IfErr, IfOk, List, Ok, bytes_eq, codes, not, true};
+ghost use Rattle.std.specs.Prelude.{◌≡◌, ◌≤◌, ◌+◌, ◌||◌, ◌∷◌, ℕ, Err, IfErr, IfOk, List, Ok, bytes_eq, codes, not, true};
 ghost use Rattle.fork_bytes.specs.declared.table.Table.{Table};
 ghost use Rattle.fork_rez.specs.Said.{made_table};
 ghost use Rattle.host_paths.specs.declared.host.Answer.{Answer};
 ghost use Rattle.mac_files.specs.Kinds.{is_alone, kind_of};
 ghost use Rattle.file_acts.specs.declared.acts.Act.TheVariants as act;
 ghost use Rattle.resfork.specs.Ends.{ended};
-ghost use Rattle.resfork.specs.Folders.{AddsFile, IsManifest, IsPacked, ReadsBelow, ReadsFiles, ReadsManifest, ReadsPacking};
+ghost use Rattle.resfork.specs.Folders.{AddsFile, AreReadIn, IsManifest, IsPacked, ReadsBelow, ReadsFiles, ReadsManifest, ReadsPacking};
 ghost use Rattle.resfork.specs.Making.{ChecksAt, ChecksFree, IsFileLike, IsFree, WritesAndSays, WritesNew, WritesTable, leads_to_file};
 ghost use Rattle.resfork.specs.Packing.{Delivers, IsRezzed, PacksLike, PutsRows, Rezzes, RezzesText, like_bytes, with_advice};
 ghost use Rattle.file_acts.specs.Acts.{WritesNothing};
@@ -426,6 +426,38 @@ fn add_file(
     Ok(length)
 }
 
+/// How many bytes are left of so many, where a file has this length: none may be lacking.
+fn rest_of(left: usize, length: usize) -> Result<usize, Problem>
+    ensures { IfOk result (λ rest. rest + length ≡ left) }
+{
+    match left.checked_sub(length) {
+        Some(rest) => Ok(rest),
+        None => Err(Problem::Write(NotWritten::TooBig)),
+    }
+}
+
+/// Reads a file in a folder into these files, unless it is one of them. The result is how many bytes are left of so many.
+fn add_once(
+    host: &Host<'_>,
+    files: &mut Files,
+    folder: &str,
+    file: &str,
+    left: usize,
+    acts: &mut Acts,
+) -> Result<usize, Problem>
+    ensures few { IfOk result (λ rest. rest ≤ left) }
+    ensures reads { left ≤ 268435456 → AreReadIn folder.now files.old acts.old.events → IfOk result (λ _. AreReadIn folder.now files.new acts.new.events) }
+    ensures quiet { ReadsBelow folder.now acts.old.events acts.new.events }
+    ensures seen { ShowsSaved acts.old.events acts.new.events }
+{
+    let known = files.get(file).map(|bytes| bytes.len());
+    if let Some(length) = known {
+        return rest_of(left, length);
+    }
+    let length = add_file(host, files, folder, file, left, acts)?;
+    rest_of(left, length)
+}
+
 /// The files of resources in a folder, by their paths below it. Each is read once, and no more of them than a fork
 /// holds: resources that have more bytes together are refused.
 fn read_files(
@@ -441,16 +473,7 @@ fn read_files(
     let mut files = Files::new(host.alloc());
     let mut left = MOST_BYTES;
     for entry in entries {
-        let file = entry.file.as_str();
-        let known = files.get(file).map(|bytes| bytes.len());
-        let length = match known {
-            Some(length) => length,
-            None => add_file(host, &mut files, folder, file, left, acts)?,
-        };
-        let Some(rest) = left.checked_sub(length) else {
-            return Err(Problem::Write(NotWritten::TooBig));
-        };
-        left = rest;
+        left = add_once(host, &mut files, folder, entry.file.as_str(), left, acts)?;
     }
     Ok(files)
 }
