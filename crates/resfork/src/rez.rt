@@ -524,7 +524,7 @@ fn packing_in(
 /// The table of what was packed, with the bytes of these files.
 fn packed_table<'a>(
     alloc: Global,
-    packing: &'a Manifest,
+    packing: &Manifest,
     files: &'a Files,
 ) -> Result<Table<'a>, Problem>
     ensures { IsPacked packing.now files.now result }

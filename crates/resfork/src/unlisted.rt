@@ -99,7 +99,7 @@ fn unlisted(
 
 /// What is packed, with the files of these paths, too.
 fn with_others(alloc: Global, packing: Packing, others: &Paths) -> Result<Packing, Problem>
-    ensures { IfOk result (IsWithOthers true packing.entry) }
+    ensures { IfOk result (IsWithOthers true packing) }
 {
     let mut paths = Vec::new(alloc);
     for path in others {
@@ -122,7 +122,7 @@ fn with_others(alloc: Global, packing: Packing, others: &Paths) -> Result<Packin
 
 /// What is packed, where there are no others; else the first of these is refused.
 fn without_others(alloc: Global, packing: Packing, others: &Paths) -> Result<Packing, Problem>
-    ensures { IfOk result (IsWithOthers false packing.entry) }
+    ensures { IfOk result (IsWithOthers false packing) }
 {
     match others.first() {
         Some(path) => {
@@ -142,7 +142,7 @@ pub fn with_unlisted(
     adds: bool,
     acts: &mut Acts,
 ) -> Result<Packing, Problem>
-    ensures does { AddsOthers folder.now adds packing.entry result acts.old.events acts.new.events }
+    ensures does { AddsOthers folder.now adds packing result acts.old.events acts.new.events }
     ensures quiet { ReadsBelow folder.now acts.old.events acts.new.events }
     ensures seen { ShowsSaved acts.old.events acts.new.events }
 {
