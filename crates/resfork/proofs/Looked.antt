@@ -16,14 +16,14 @@ use Rattle.resfork.specs.Putting.{PutsAt, PutsIf}
 -- it wasn't asked what the standard input leads to
 pub not_asked : (is : Bool) (creates : Bool) (target : Target) (edit : Edit) (result : Result ℕ Problem) (old new : Log) → is ≡ true → Changes target [] edit result old new → PutsIf is creates target edit result old new
 unfolding PutsIf
-not_asked is creates target edit result old new yes done = subst (λ (b : Bool). PutsIf b creates target edit result old new) (sym yes) done
+not_asked is creates target edit result old new same done = subst (λ (b : Bool). PutsIf b creates target edit result old new) (sym same) done
 
 -- it was asked, and then done
 pub asked_first : (is : Bool) (creates : Bool) (target : Target) (edit : Edit) (found : Result (Option Found) Error) (result : Result ℕ Problem) (old mid new : Log)
     → is ≡ false → mid ≡ act.Asked target.file.now (answer_of found) ∷ old → PutsAt (answer_of found) creates target edit result mid new → PutsIf is creates target edit result old new
 unfolding PutsIf
-asked_first is creates target edit found result old mid new no asked done =
-    subst (λ (b : Bool). PutsIf b creates target edit result old new) (sym no)
+asked_first is creates target edit found result old mid new other asked done =
+    subst (λ (b : Bool). PutsIf b creates target edit result old new) (sym other)
     (answer_of found, subst (λ (log : Log). PutsAt (answer_of found) creates target edit result log new) asked done)
 
 -- a file is made where nothing is, and it may be
@@ -42,16 +42,10 @@ makes_none creates target edit found mid is may =
     subst (λ (it : Result (Option Found) Error). PutsAt (answer_of it) creates target edit (Err problem.NoFile) mid mid) (sym is)
     (subst (λ (b : Bool). PutsAt (answer_of (Ok None)) b target edit (Err problem.NoFile) mid mid) (sym may) (refl, refl))
 
--- the file that is there is changed
-pub changes_it : (creates : Bool) (target : Target) (edit : Edit) (found : Result (Option Found) Error) (it : Found) (result : Result ℕ Problem) (mid new : Log)
-    → found ≡ Ok (Some it) → Changes target [] edit result mid new → PutsAt (answer_of found) creates target edit result mid new
+-- what is there is changed, also where it isn't known what that is
+pub changes_it : (creates : Bool) (target : Target) (edit : Edit) (found : Result (Option Found) Error) (result : Result ℕ Problem) (mid new : Log)
+    → (found ≡ Ok None → ⊥) → Changes target [] edit result mid new → PutsAt (answer_of found) creates target edit result mid new
 unfolding PutsAt
-changes_it creates target edit found it result mid new is done =
-    subst (λ (one : Result (Option Found) Error). PutsAt (answer_of one) creates target edit result mid new) (sym is) done
-
--- and so is one of which it isn't known what it is
-pub changes_unknown : (creates : Bool) (target : Target) (edit : Edit) (found : Result (Option Found) Error) (why : Error) (result : Result ℕ Problem) (mid new : Log)
-    → found ≡ Err why → Changes target [] edit result mid new → PutsAt (answer_of found) creates target edit result mid new
-unfolding PutsAt
-changes_unknown creates target edit found why result mid new is done =
-    subst (λ (one : Result (Option Found) Error). PutsAt (answer_of one) creates target edit result mid new) (sym is) done
+changes_it creates target edit (Ok (Some it)) result mid new there done = done
+changes_it creates target edit (Ok None) result mid new there done = absurd (there refl)
+changes_it creates target edit (Err why) result mid new there done = done
