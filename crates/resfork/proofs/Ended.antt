@@ -1,5 +1,5 @@
 -- How commands that change files end.
-use Rattle.std.proofs.Common.{◌≡◌, ap, inl, inr, subst, sym, ◌∙◌, ℕ, List, Option, Some, None, Result, Ok, Err}
+use Rattle.std.proofs.Common.{◌≡◌, ap, inl, inr, refl, subst, sym, ◌∙◌, ℕ, List, Option, Some, None, Result, Ok, Err}
 use Rattle.std.specs.Prelude.{IfErr, IfOk, IsErrAnd}
 use Rattle.std.proofs.lemmas.Result.{err_from_is_err_and}
 use Rattle.fork_edit.specs.declared.change.NewFile.{NewFile}
@@ -42,16 +42,22 @@ unfolding Then
 filed_not first next result failed done old new is was one = let p = err_from_is_err_and result is in
     inr (failed.problem, ap ended (p.1 ∙ ap (λ (e : Failed). Err e) p.2), subst (λ (it : Result _ Problem). first it old new) was one)
 
+-- the first step wasn't done, of which the end is known
+pub not_first : {T U : Type 0} (first : Result T Problem → Log → Log → Type 0) (next : T → Result U Problem → Log → Log → Type 0) (why : Problem) (old new : Log)
+    → first (Err why) old new → Then first next (Err why) old new
+unfolding Then
+not_first first next why old new one = inr (why, refl, one)
+
 -- its problem is what holds of the result
 pub handed : {T : Type 0} (Q : Problem → Type 0) (result : Result T Failed) (failed : Failed) → IsErrAnd result (λ told. told ≡ failed) → Q failed.problem → IfErr result (λ told. Q told.problem)
 handed Q (Ok value) failed is why = tt
 handed Q (Err told) failed is why = subst (λ (it : Failed). Q it.problem) (sym is) why
 
 -- what holds of what was done holds where the result names the file that is in the way
-pub filed_done : {T : Type 0} (P Q : T → Type 0) (done : Result T Problem) (result : Result T Failed) → IfOk result (λ value. done ≡ Ok value) → IfOk done P → ((value : T) → P value → Q value) → IfOk result Q
-filed_done P Q done (Ok value) is held next = next value (rw is at held)
-filed_done P Q done (Err failed) is held next = tt
+pub filed_done : {T : Type 0} (done : Result T Problem) (result : Result T Failed) (P Q : T → Type 0) → IfOk result (λ value. done ≡ Ok value) → IfOk done P → ((value : T) → P value → Q value) → IfOk result Q
+filed_done done (Ok value) P Q is held next = next value (rw is at held)
+filed_done done (Err failed) P Q is held next = tt
 
-pub filed_why : {T : Type 0} (P Q : Problem → Type 0) (done : Result T Problem) (result : Result T Failed) → IfErr result (λ failed. done ≡ Err failed.problem) → IfErr done P → ((why : Problem) → P why → Q why) → IfErr result (λ failed. Q failed.problem)
-filed_why P Q done (Ok value) is held next = tt
-filed_why P Q done (Err failed) is held next = next failed.problem (rw is at held)
+pub filed_why : {T : Type 0} (done : Result T Problem) (result : Result T Failed) (P Q : Problem → Type 0) → IfErr result (λ failed. done ≡ Err failed.problem) → IfErr done P → ((why : Problem) → P why → Q why) → IfErr result (λ failed. Q failed.problem)
+filed_why done (Ok value) P Q is held next = tt
+filed_why done (Err failed) P Q is held next = next failed.problem (rw is at held)

@@ -13,7 +13,7 @@ ghost use Rattle.resfork.specs.Does.{ConvertsFile, Does, EndsWork};
 ghost use Rattle.resfork.specs.Ends.{ended};
 ghost use Rattle.resfork.specs.Outside.{ChangesOutside};
 ghost use Rattle.resfork.specs.Packing.{Packs};
-ghost use Rattle.resfork.specs.Putting.{Puts, PutsBytes, PutsIf, PutsInto, Removes, Sets};
+ghost use Rattle.resfork.specs.Putting.{Puts, PutsBytes, PutsIf, PutsInto, Removes, Sets, input_of};
 ghost use Rattle.resfork.specs.Running.{ChangesFiles, IsForPlace, ReadsWork, is_dry_place, writes_nothing};
 
 use crate::rez::{Like, pack_folder, rez_file};
@@ -83,6 +83,16 @@ fn try_work<'a, W: World>(
     }
 }
 
+/// The file that has the bytes of a resource: the standard input where none is named.
+fn input_of<'a>(asked: &Putting<'a>) -> &'a str
+    ensures { result.now ≡ input_of asked.now }
+{
+    match asked.input {
+        Some(path) => path,
+        None => INPUT,
+    }
+}
+
 /// Puts bytes in the place of a resource's, or adds it.
 fn put<'a>(host: &Host<'_>, asked: Putting<'a>, acts: &mut Acts) -> Result<u8, Failed<'a>>
     ensures does { Puts asked.entry (ended result) acts.old.events acts.new.events }
@@ -91,7 +101,7 @@ fn put<'a>(host: &Host<'_>, asked: Putting<'a>, acts: &mut Acts) -> Result<u8, F
     ensures saved { IsForFile asked.entry.target → IfOk result (λ _. EndsSaved acts.new.events) }
     ensures seen { IsForFile asked.entry.target → ShowsSaved acts.old.events acts.new.events }
 {
-    let input = asked.input.unwrap_or(INPUT);
+    let input = input_of(&asked);
     let bytes = of_file(input, input::read(host, input, acts))?;
     of_file(asked.target.file, put_bytes(host, asked, &bytes, acts))
 }
