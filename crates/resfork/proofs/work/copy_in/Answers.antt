@@ -9,7 +9,7 @@ pub returns-clause-does : goal.returns-clause-does
 unfolding CopiesIn
 returns-clause-does c = then_done _ _ c.in_ok-table.table.rows c.args.acts.now.events _ _ _
     ((fork_of c.in_ok-found.found, c.in_ok-table.table, rw c.in_ok-found.ensures.value at c.fork_found.ensures.fork, rw c.in_ok-table.ensures.value at c.table_found.ensures.table, refl), refl)
-    (rw c.as_slice.ensures.value at c.copy_rows.ensures.does)
+    (rw c.as_slice.ensures at c.copy_rows.ensures.does)
 
 pub returns-in_err-found-clause-does : goal.returns-in_err-found-clause-does
 unfolding CopiesIn
