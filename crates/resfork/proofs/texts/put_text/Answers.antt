@@ -23,3 +23,12 @@ returns-in_err-source-clause-dry c = λ dry before. c.open.ensures.dry dry (writ
 
 pub returns-clause-dry : goal.returns-clause-dry
 returns-clause-dry c = λ dry before. c.put_in.ensures.dry dry (c.open.ensures.dry dry (writes_nothing c.args.asked.target.file.now c.args.acts.now.events c.check_outside.new.acts.events c.check_outside.ensures.quiet before))
+
+pub put_in-requires : goal.put_in-requires
+put_in-requires c = rw c.in_ok-source.ensures.value at c.open.ensures.place
+
+pub returns-clause-saved : goal.returns-clause-saved
+returns-clause-saved c = λ for. c.put_in.ensures.saved for (rw c.in_ok-source.ensures.value at c.open.ensures.just)
+
+pub returns-clause-seen : goal.returns-clause-seen
+returns-clause-seen c = λ for seen. c.put_in.ensures.seen for (rw c.in_ok-source.ensures.value at c.open.ensures.just) (c.open.ensures.seen (c.check_outside.ensures.seen seen))
