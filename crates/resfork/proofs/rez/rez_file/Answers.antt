@@ -1,3 +1,4 @@
+use Rattle.std.proofs.Common.{None}
 use Rattle.fork_saves.proofs.Steps.{then_done}
 use Rattle.resfork.proofs.Ended.{filed_not}
 use Rattle.resfork.proofs.rez.rez_file.Goals as goal
@@ -7,3 +8,6 @@ returns-clause-does c = then_done _ _ c.in_ok-text.text c.read.new.acts.events _
 
 pub returns-in_err-text-clause-does : goal.returns-in_err-text-clause-does
 returns-in_err-text-clause-does c = filed_not _ _ c.from_residual.result c.in_err-text.field-0.0 c.read.result _ _ c.from_residual.ensures.1 c.in_err-text.ensures.problem c.read.ensures.reads
+
+pub returns-clause-dry : goal.returns-clause-dry
+returns-clause-dry c = λ dry before. c.rez_text.ensures.dry dry (c.read.ensures.quiet None tt before)

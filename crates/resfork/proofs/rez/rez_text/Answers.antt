@@ -9,7 +9,7 @@ use Rattle.resfork.proofs.rez.rez_text.Goals as goal
 
 pub returns-clause-does : goal.returns-clause-does
 unfolding RezzesText
-returns-clause-does c = then_done _ _ (made_table c.in_ok-made.made) c.args.acts.now.events _ _ _ (rw c.in_ok-made.ensures.value at c.made_of.ensures.made, refl) c.deliver.ensures.does
+returns-clause-does c = then_done _ _ (made_table c.in_ok-made.made) c.args.acts.now.events _ _ _ (rw c.in_ok-made.ensures.value at c.made_of.ensures.made, refl) (rw c.in-Ok.ensures at c.deliver.ensures.does)
 
 pub returns-in_err-made-clause-does : goal.returns-in_err-made-clause-does
 unfolding RezzesText

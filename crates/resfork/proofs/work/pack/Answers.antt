@@ -1,4 +1,4 @@
-use Rattle.std.proofs.Common.{ℕ, [], List, Option, Ok, Err, inr, subst, sym, refl}
+use Rattle.std.proofs.Common.{◌≡◌, ℕ, [], List, Option, None, Ok, Err, inr, subst, sym, refl, rules}
 use Rattle.std.specs.Borrow.{Bor}
 use Rattle.fork_saves.proofs.Steps.{then_done}
 use Rattle.fork_shows.proofs.Quiet.{writes_nothing}
@@ -9,7 +9,9 @@ use Rattle.resfork.proofs.work.pack.Goals as goal
 
 pub returns-else-Some-clause-does : goal.returns-else-Some-clause-does
 unfolding ReadsLike
-returns-else-Some-clause-does g c = then_done (ReadsLike g.W.World c.args.host.now.limit c.args.asked.like) (PacksLike c.args.asked) [] c.args.acts.now.events _ _ _ ?
+returns-else-Some-clause-does g c = let none : c.args.asked.like ≡ None = search rules in
+    then_done (ReadsLike g.W.World c.args.host.now.limit c.args.asked.like) (PacksLike c.args.asked) [] c.args.acts.now.events _ _ _
+    (subst (λ (like : Option (Bor (List ℕ))). ReadsLike g.W.World c.args.host.now.limit like (Ok []) c.args.acts.now.events c.args.acts.now.events) (sym none) (refl, refl))
     c.pack_folder.ensures.does
 
 pub returns-clause-does : goal.returns-clause-does
