@@ -8,5 +8,5 @@ loop-name-init c = record {
   seen = c.names_in.ensures.seen;
 }
 
-pub returns-in_err-names_in-clause-quiet : goal.returns-in_err-names_in-clause-quiet
-returns-in_err-names_in-clause-quiet c = reads_named c.args.folder.now c.args.kind.now c.as_str.result.now c.args.acts.now.events c.names_in.new.acts.events (c.as_str.ensures.value ∙ c.in_ok-path.ensures) c.names_in.ensures.quiet
+pub returns-in_err-name-items-clause-quiet : goal.returns-in_err-name-items-clause-quiet
+returns-in_err-name-items-clause-quiet c = reads_named c.args.folder.now c.args.kind.now c.as_str.result.now c.args.acts.now.events c.names_in.new.acts.events (c.as_str.ensures.value ∙ c.in_ok-path.ensures) c.names_in.ensures.quiet

@@ -5,5 +5,5 @@ use Rattle.resfork.proofs.unlisted.is_folder_in.Goals as goal
 pub returns-in-Ok-Some-clause-quiet : goal.returns-in-Ok-Some-clause-quiet
 returns-in-Ok-Some-clause-quiet c = reads_named c.args.folder.now c.args.name.now c.as_str.result.now c.args.acts.now.events c.look_at.new.acts.events (c.as_str.ensures.value ∙ c.in_ok-path.ensures) c.look_at.ensures.quiet
 
-pub returns-in_default-clause-quiet : goal.returns-in_default-clause-quiet
-returns-in_default-clause-quiet c = reads_named c.args.folder.now c.args.name.now c.as_str.result.now c.args.acts.now.events c.look_at.new.acts.events (c.as_str.ensures.value ∙ c.in_ok-path.ensures) c.look_at.ensures.quiet
+pub returns-clause-quiet : goal.returns-clause-quiet
+returns-clause-quiet c = reads_named c.args.folder.now c.args.name.now c.as_str.result.now c.args.acts.now.events c.look_at.new.acts.events (c.as_str.ensures.value ∙ c.in_ok-path.ensures) c.look_at.ensures.quiet

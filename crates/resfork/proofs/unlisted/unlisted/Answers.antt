@@ -7,5 +7,5 @@ loop-name-init c = record {
   seen = c.names_in.ensures.seen;
 }
 
-pub returns-in_err-names_in-clause-quiet : goal.returns-in_err-names_in-clause-quiet
-returns-in_err-names_in-clause-quiet c = reads_folder c.args.folder.now c.args.acts.now.events c.names_in.new.acts.events c.names_in.ensures.quiet
+pub returns-in_err-name-items-clause-quiet : goal.returns-in_err-name-items-clause-quiet
+returns-in_err-name-items-clause-quiet c = reads_folder c.args.folder.now c.args.acts.now.events c.names_in.new.acts.events c.names_in.ensures.quiet
